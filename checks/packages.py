@@ -20,6 +20,8 @@ INCLUDED = (
     ("golang-github-gogo-protobuf-dev", "usr/share/gocode/src/github.com/gogo/protobuf"),
     ("golang-github-gogo-googleapis-dev", "usr/share/gocode/src/github.com/gogo/googleapis"),
 )
+# Packages whose roots import one another: beside each root, the others are included, too.
+TOGETHER = ("src:grpc-java",)
 TOP = os.path.dirname(os.path.dirname(os.path.realpath(__file__)))
 PROGRAM = os.environ.get("PROTOSCIP") or os.path.join(TOP, "protoscip")
 # A comment, a string, or an import with its path.
@@ -28,11 +30,10 @@ IMPORT = re.compile(r"//[^\n]*|/\*.*?\*/|\bimport\s+(?:public\s+|weak\s+)?\"([^\
 COMMENT = re.compile(rb"//[^\n]*|/\*.*?\*/", re.S)
 WORD = re.compile(rb"//[^\n]*|/\*.*?\*/|(\w+)", re.S)
 TOLD = re.compile(r"protoscip: (?:(skipped): (.*?)@(\d+): (\w+)(?: of (.*)@(\d+))?"
-                  r"|(no target): (.*)@(\d+): (MissingImport|Unresolved|Ambiguous)"
+                  r"|(no target): (.*)@(\d+): (MissingImport|Unresolved|Ambiguous|Option)"
                   r"|(uncertain): (.*)@(\d+) behind (.*))")
 COUNTS = re.compile(r"protoscip: (\d+) sources indexed, (\d+) skipped, (\d+) imports and (\d+) uses without a target")
 SYMBOL = "scip-protobuf . . . "
-FRONT = re.compile(re.escape(SYMBOL) + "`([^`]+)`/(.+)")
 GROUP = 10  # the type of a group's field
 
 
@@ -157,10 +158,12 @@ def trees_of(packages, room, given):
         if not paths:
             print(f"{package}: can't be had, or has no .proto file: left out")
             continue
-        for root in roots_of(at, paths):
+        roots = roots_of(at, paths)
+        for root in roots:
             name = f"{package}, {root.rstrip('/') or '.'}"
             print(f"{name}: {sum(path.startswith(root) for path in paths)} sources", flush=True)
-            yield name, os.path.join(at, root), included
+            beside = [os.path.join(at, other) for other in roots if other != root and package in TOGETHER]
+            yield name, os.path.join(at, root), [*beside, *included]
 
 
 # ---- records of protocol buffers
@@ -176,17 +179,33 @@ def varint(data, at):
             return value, at
 
 
+def field_at(data, at):
+    """The field that begins here: its number and kind, its value as a number or as bytes, and where it ends. A group's
+    value is what is in it; where a group ends, there is none."""
+    tag, at = varint(data, at)
+    number, kind, start = tag >> 3, tag & 7, at
+    if kind == 0:
+        value, at = varint(data, at)
+    elif kind == 3:
+        end, inner = at, 3
+        while inner != 4:
+            at = end
+            _, inner, _, end = field_at(data, at)
+        value, at = data[start:at], end
+    elif kind == 4:
+        value = b""
+    else:
+        size, at = {1: (8, at), 5: (4, at)}.get(kind) or varint(data, at)
+        value, at = data[at:at + size], at + size
+    return number, kind, value, at
+
+
 def fields(data):
     """The fields of a message, by number, each a list of numbers and bytes."""
     found, at = collections.defaultdict(list), 0
     while at < len(data):
-        tag, at = varint(data, at)
-        if tag & 7 == 0:
-            value, at = varint(data, at)
-        else:
-            size, at = {1: (8, at), 5: (4, at)}.get(tag & 7) or varint(data, at)
-            value, at = data[at:at + size], at + size
-        found[tag >> 3].append(value)
+        number, _, value, at = field_at(data, at)
+        found[number].append(value)
     return found
 
 
@@ -261,8 +280,10 @@ class Descriptor:
 
     def place(self, path):
         span = self.places.get(path)
-        if span is None:
-            return None
+        return None if span is None else self.place_at(span)
+
+    def place_at(self, span):
+        """The place of protoc's span."""
         line, start, end_line, end = span if len(span) == 4 else (span[0], span[1], span[0], span[2])
         return line, self.column(line, start), end_line, self.column(end_line, end)
 
@@ -368,11 +389,11 @@ class Descriptor:
 
 class Protoc:
     """What protoc says of these sources: the descriptors of those that it can read, the first line of what it says of
-    the others, the symbols and imports of all the files that they see, and for each source the file that declares a
-    type, by its symbol. `repeated` has the names that a file gives after another one, by path."""
+    the others, the symbols, imports and descriptors of all the files that they see, and for each source the file of
+    each declaration, by its symbol. `repeated` has the names that a file gives after another one, by path."""
 
     def __init__(self, folders, paths, room, has_extensions, repeated=None):
-        self.found, self.refused, self.symbols, self.imports, self.owners = {}, {}, {}, {}, {}
+        self.found, self.refused, self.symbols, self.imports, self.owners, self.records = {}, {}, {}, {}, {}, {}
         out = os.path.join(room, "descriptors")
         for path in paths:
             places = [f"--proto_path={folder}" for folder in folders]
@@ -390,9 +411,9 @@ class Protoc:
                 if read is None or name == path:
                     at = next(filter(os.path.exists, (os.path.join(folder, name) for folder in folders)))
                     read = Descriptor(data, text_of(at), has_extensions, (repeated or {}).get(name, ()))
-                self.owners[path].update(dict.fromkeys(read.symbols.values(), name))
+                self.owners[path].update({symbol: name for _, symbol in read.definitions if not symbol.endswith("/")})
                 self.symbols.update(read.symbols)
-                self.imports[name] = read.imports
+                self.imports[name], self.records[name] = read.imports, read.file
                 if name == path:
                     self.found[name] = read
 
@@ -419,7 +440,7 @@ class Told:
                 for path, at in ((line[2] or line[8] or line[12], line[3] or line[9] or line[13])
                                  for line in self.lines)]
         kinds = collections.Counter(line[1] or line[10] or line[11] for line in self.lines)
-        uses = kinds["Unresolved"] + kinds["Ambiguous"]
+        uses = kinds["Unresolved"] + kinds["Ambiguous"] + kinds["Option"]
         wanted = (len(own - set(self.skipped)), kinds["skipped"], kinds["MissingImport"], uses)
         return keys == sorted(set(keys)) and wanted == tuple(map(int, self.counts.groups()))
 
@@ -496,40 +517,3 @@ def see_source(verdicts, name, descriptor, occurrences, told, symbols):
     verdicts.see(f"{name}: {path}: uses", not differences, differences)
     see_flaws(verdicts, name, descriptor)
     return len(defined), len(descriptor.uses)
-
-
-def without_front(symbol):
-    """The file that a declaration's symbol has in front, if any, and the symbol without it."""
-    front = FRONT.fullmatch(symbol)
-    return (front[1], SYMBOL + front[2]) if front else (None, symbol)
-
-
-def see_real(verdicts, name, root, included, protoc, room):
-    """Indexes a root by `--real`: each source that protoc can read is there, with protoc's own definitions and targets.
-    No symbol is that of two declarations; one has a file in front only if it is that of what this file declares."""
-    index = os.path.join(room, "index")
-    done = run([PROGRAM, "index", "--real", *(f"--include={folder}" for folder in included), root, index])
-    verdicts.see(f"{name}: --real: status", done.returncode == 0, (done.returncode, done.stderr))
-    told = Told(b"\n".join(line for line in done.stderr.splitlines() if b" nowhere" not in line))
-    documents, defined = occurrences_in(text_of(index)), collections.defaultdict(list)
-    for path, occurrences in documents.items():
-        for _, symbol, roles in occurrences:
-            if roles & 1 and not symbol.endswith("/"):
-                defined[symbol].append(path)
-    twice = {symbol: paths for symbol, paths in defined.items() if len(paths) > 1}
-    verdicts.see(f"{name}: --real: a symbol is that of one declaration", not twice, twice)
-    for path, descriptor in protoc.found.items():
-        verdicts.see(f"{name}: --real: {path}: indexed", path in documents, told.skipped.get(path))
-        shown, wrong = [], []
-        for place, symbol, roles in documents.get(path, ()):
-            file, plain = without_front(symbol)
-            owner = path if roles & 1 else protoc.owners[path].get(plain)
-            if file not in (None, owner) or not roles and symbol in defined and defined[symbol] != [owner]:
-                wrong.append((place, symbol, owner))
-            shown.append((place, plain, roles))
-        verdicts.see(f"{name}: --real: {path}: files in front", not wrong, wrong)
-        gaps = [gap for gap in told.gaps if gap[0] == path and gap[2] != "MissingImport"]
-        verdicts.see(f"{name}: --real: {path}: without a target", not gaps, gaps)
-        see_source(verdicts, f"{name}: --real", descriptor, shown, told, protoc.symbols)
-    print(f"  --real: {len(documents)} sources indexed, {len(told.skipped)} skipped; protoc reads {len(protoc.found)}",
-          flush=True)

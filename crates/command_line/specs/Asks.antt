@@ -7,6 +7,7 @@ use Rattle.clap.specs.declared.error.kind.ErrorKind.{ErrorKind}
 use Rattle.command_line.specs.Options.{AreListed, CarriesDump, CarriesIndex, CarriesJoin, CarriesPages}
 use Rattle.command_line.specs.Options.{CarriesQuery, CarriesShell, CarriesSnapshot}
 use Rattle.command_line.specs.Options.At.{is_nowhere}
+use Rattle.command_line.specs.Options.OptionsLinked.{links_in_proto3}
 use Rattle.command_line.specs.Options.Report.{lacks_report}
 use Rattle.command_line.specs.Options.Sources.{lists_commands}
 use Rattle.command_line.specs.Program.{command_line}
@@ -46,9 +47,11 @@ Names program (request.Print text) = ⊥
 Names program (request.Refuse text) = ⊥
 
 -- what the rules of `clap` let pass, and is refused: a form for a report, and no file; a folder for the documents that
--- is none; a list that `shell` would read where its commands are
+-- is none; a list that `shell` would read where its commands are; names in options linked where proto3 sources alone are
+-- read
 abbrev pub is_unfit : Option (Text × List Row) → Bool
-is_unfit program = lacks_report (rows_in program) || (is_nowhere (rows_in program) || lists_commands program)
+is_unfit program = lacks_report (rows_in program)
+    || (is_nowhere (rows_in program) || (lists_commands program || links_in_proto3 program))
 
 -- the program that the words name, unless what they give it is refused
 abbrev pub AsksFor : (is_unfit : Bool) → Option (Text × List Row) → Request → Type 0

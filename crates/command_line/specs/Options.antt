@@ -5,7 +5,7 @@ use Rattle.clap.specs.Words.{Row, Rule, Text}
 use Rattle.command_line.specs.Arguments.{texts_at}
 use Rattle.command_line.specs.Values.{text_of, texts_of}
 use Rattle.command_line.specs.Options.Accept.{accept_rule, accept_words, dialect_of}
-use Rattle.command_line.specs.Options.Also.{also_of}
+use Rattle.command_line.specs.Options.Also.{indexes_of}
 use Rattle.command_line.specs.Options.At.{at_of, at_rule}
 use Rattle.command_line.specs.Options.Comments.{comments_of, comments_rule, comments_words}
 use Rattle.command_line.specs.Options.CustomOptions.{custom_options_rule, custom_options_words}
@@ -22,6 +22,7 @@ use Rattle.command_line.specs.Options.Limits.{limits_of, max_skipped_rule, min_s
 use Rattle.command_line.specs.Options.Links.{links_of, links_rule, links_words}
 use Rattle.command_line.specs.Options.More.{more_in}
 use Rattle.command_line.specs.Options.Only.{only_of, only_rule}
+use Rattle.command_line.specs.Options.OptionsLinked.{links_options, options_rule, options_words}
 use Rattle.command_line.specs.Options.Package.{manager_of, manager_rule, package_of, package_rule, release_of}
 use Rattle.command_line.specs.Options.Package.{release_rule}
 use Rattle.command_line.specs.Options.Positions.{encoding_of, positions_rule, positions_words}
@@ -60,6 +61,7 @@ pub mod Limits
 pub mod Links
 pub mod More
 pub mod Only
+pub mod OptionsLinked
 pub mod Package
 pub mod Positions
 pub mod ProjectRoot
@@ -81,6 +83,7 @@ pub record AreListed (lists : WordLists) : Type 0 where
   pub positions : texts_at lists.positions ≡ positions_words
   pub accept : texts_at lists.accept ≡ accept_words
   pub custom_options : texts_at lists.custom_options ≡ custom_options_words
+  pub options : texts_at lists.options ≡ options_words
   pub faulty : texts_at lists.faulty ≡ faulty_words
   pub duplicates : texts_at lists.duplicates ≡ duplicates_words
   pub links : texts_at lists.links ≡ links_words
@@ -104,6 +107,7 @@ abbrev pub reading_rules : WordLists → List Rule
 reading_rules lists = positions_rule lists.positions
     ∷ accept_rule lists.accept
     ∷ custom_options_rule lists.custom_options
+    ∷ options_rule lists.options
     ∷ faulty_rule lists.faulty
     ∷ duplicates_rule lists.duplicates
     ∷ explain_rule
@@ -147,6 +151,7 @@ pub record Carries (rows : List Row) (options : IndexOptions) : Type 0 where
   pub well_known : options.well_known ≡ well_known_in rows
   pub encoding : options.encoding ≡ encoding_of rows
   pub dialect : options.dialect ≡ dialect_of rows
+  pub links_options : options.links_options ≡ links_options rows
   pub faulty : options.faulty ≡ faulty_of rows
   pub duplicates : options.duplicates ≡ duplicates_of rows
   pub explain : options.explain ≡ explains_in rows
@@ -178,10 +183,6 @@ pub record CarriesQuery (rows : List Row) (options : QueryOptions) : Type 0 wher
 pub record CarriesDump (rows : List Row) (options : DumpOptions) : Type 0 where
   pub dialect : options.dialect ≡ dialect_of rows
   pub explain : options.explain ≡ explains_in rows
-
--- the path of an index, and those of further ones
-abbrev pub indexes_of : List Row → List Text
-indexes_of rows = texts_of (codes "INDEX") rows ++ also_of rows
 
 -- and those of `snapshot`
 pub record CarriesSnapshot (rows : List Row) (options : SnapshotOptions) : Type 0 where

@@ -15,7 +15,6 @@ ghost use Rattle.command_line.specs.Options.{
   CarriesSnapshot,
   choice_rules,
   index_option_rules,
-  indexes_of,
   own_rules,
   reading_rules,
   search_rules,
@@ -40,6 +39,7 @@ mod limits;
 mod links;
 pub(crate) mod more;
 mod only;
+pub(crate) mod options_linked;
 mod package;
 mod positions;
 mod project_root;
@@ -54,6 +54,7 @@ mod workers;
 
 use crate::names::{INDEX_FILE, OUT, ROOT};
 use crate::options::accept::dialect_of;
+use crate::options::also::indexes_of;
 use crate::options::comments::comments_of;
 use crate::options::details::details_in;
 use crate::options::doc::doc_of;
@@ -64,6 +65,7 @@ use crate::options::include::package_folders_of;
 use crate::options::limits::limits_of;
 use crate::options::links::links_of;
 use crate::options::more::more_in;
+use crate::options::options_linked::links_options;
 use crate::options::positions::encoding_of;
 use crate::options::quiet::quiet_in;
 use crate::options::real::is_real;
@@ -95,6 +97,7 @@ pub(crate) struct WordLists<'a> {
     pub(crate) positions: &'a [&'a str],
     pub(crate) accept: &'a [&'a str],
     pub(crate) custom_options: &'a [&'a str],
+    pub(crate) options: &'a [&'a str],
     pub(crate) faulty: &'a [&'a str],
     pub(crate) duplicates: &'a [&'a str],
     pub(crate) links: &'a [&'a str],
@@ -112,6 +115,7 @@ impl<'a> WordLists<'a> {
             positions: positions::WORDS.as_slice(),
             accept: accept::WORDS.as_slice(),
             custom_options: custom_options::WORDS.as_slice(),
+            options: options_linked::WORDS.as_slice(),
             faulty: faulty::WORDS.as_slice(),
             duplicates: duplicates::WORDS.as_slice(),
             links: links::WORDS.as_slice(),
@@ -158,6 +162,8 @@ pub struct IndexOptions {
     pub encoding: Encoding,
     /// Which sources are read; proto3 alone, and custom options refused, if it isn't given.
     pub dialect: Dialect,
+    /// Whether names in options are linked; they aren't if it isn't given.
+    pub links_options: bool,
     /// What is done about a tree with faults; it is refused if it isn't given.
     pub faulty: Faulty,
     /// Whether several files may give one name; they may not if it isn't given.
@@ -306,6 +312,7 @@ fn readings<'a>(alloc: Global, lists: WordLists<'a>) -> Result<Vec<Arg<'a>>, All
         positions::arg(alloc, lists.positions),
         accept::arg(alloc, lists.accept),
         custom_options::arg(alloc, lists.custom_options),
+        options_linked::arg(alloc, lists.options),
         faulty::arg(alloc, lists.faulty),
         duplicates::arg(alloc, lists.duplicates),
         explain::arg(alloc),
@@ -375,6 +382,7 @@ pub(crate) fn options_of(alloc: Global, given: &ArgMatches<'_>) -> Result<IndexO
         well_known: well_known_in(given),
         encoding: encoding_of(given),
         dialect: dialect_of(given),
+        links_options: links_options(given),
         faulty: faulty_of(given),
         duplicates: duplicates_of(given),
         explain: explains_in(given),
@@ -436,15 +444,6 @@ pub(crate) fn dump_options_of(given: &ArgMatches<'_>) -> DumpOptions
         dialect: dialect_of(given),
         explain: explains_in(given),
     }
-}
-
-/// The path INDEX, and those of `--also`.
-fn indexes_of(alloc: Global, given: &ArgMatches<'_>) -> Result<Vec<String>, AllocError>
-    ensures { IfOk result (λ v. map string_bytes v.items ≡ indexes_of (rows_of (found_of given.now))) }
-{
-    let mut indexes = texts_of(alloc, given, INDEX_FILE)?;
-    indexes.append(&mut texts_of(alloc, given, also::NAME)?)?;
-    Ok(indexes)
 }
 
 /// What `snapshot` is given.

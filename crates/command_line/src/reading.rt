@@ -12,6 +12,7 @@ ghost use Rattle.command_line.specs.Values.{rows_in};
 use crate::names::{INDEX, JOIN, PAGES, QUERY, SHELL, SNAPSHOT};
 use crate::options::accept::add_what_all_is;
 use crate::options::at::{NO_FOLDER, is_nowhere};
+use crate::options::options_linked::{NOT_OF_PROTO3, links_in_proto3};
 use crate::options::report::{FORM_ALONE, lacks_report};
 use crate::options::sources::{COMMANDS_THERE, lists_commands};
 use crate::options::{
@@ -43,7 +44,8 @@ pub fn request_of(alloc: Global, words: &Vec<String>) -> Result<Request, AllocEr
 }
 
 /// The program that a command line names, with what it is given; a form for a report without a file is refused, and so
-/// is a folder for the documents that is none, and a list for `shell` where its commands are.
+/// is a folder for the documents that is none, a list for `shell` where its commands are, and `--options link` if proto3
+/// sources alone are read.
 fn asked(alloc: Global, matches: &ArgMatches<'_>) -> Result<Request, AllocError>
     ensures { IfOk result (AsksFor (is_unfit (subcommand_rows_of matches.now)) (subcommand_rows_of matches.now)) }
 {
@@ -55,6 +57,9 @@ fn asked(alloc: Global, matches: &ArgMatches<'_>) -> Result<Request, AllocError>
     }
     if lists_commands(matches) {
         return refuse(alloc, COMMANDS_THERE);
+    }
+    if links_in_proto3(matches) {
+        return refuse(alloc, NOT_OF_PROTO3);
     }
     named(alloc, matches)
 }

@@ -16,7 +16,7 @@ pub(crate) const OWN_OPTIONS: &str = "      --quiet
 
 /// The options of `index` and of `shell`, as their help shows them.
 pub(crate) const OPTIONS: &str = "      --real
-          Unless given: --accept all --faulty skip --duplicates keep --well-known --doc both --comments clean --details
+          Unless given: --accept all --options link --faulty skip --duplicates keep --well-known --doc both --comments clean --details
       --workers <N>
           How many threads to use, 1 to 16; the index is the same for any number [default: 4]
       --project-root <URI>
@@ -49,6 +49,8 @@ pub(crate) const OPTIONS: &str = "      --real
           Which sources are read: proto3 alone, or proto2 too, with extend and custom options [default: proto3] [possible values: proto3, all]
       --custom-options <WORD>
           What to do with custom options: refuse the source, or skip them, as --accept all always does [default: refuse] [possible values: refuse, skip]
+      --options <WORD>
+          What to do with names in options: skip them, or link each to the field, message or value that it names [default: skip] [possible values: skip, link]
       --faulty <WORD>
           What to do with faults: refuse the tree, or leave out what has one and report it [default: refuse] [possible values: refuse, skip]
       --duplicates <WORD>
@@ -77,7 +79,7 @@ struct Asked {
 
 // The fourth row reads: `dump --explain --custom-options skip` asks for a dump that reads past custom options, and
 // explains a fault.
-static ASKED: [Asked; 23] = [
+static ASKED: [Asked; 24] = [
     Asked {
         words: "query a.scip",
         request: "Query(QueryOptions { indexes: [\"a.scip\"], explain: false, more: false })",
@@ -104,35 +106,39 @@ static ASKED: [Asked; 23] = [
     },
     Asked {
         words: "index api out",
-        request: "Index(IndexRequest { options: IndexOptions { root: \"api\", is_real: false, workers: Workers { count: 4 }, project_root: \"file:///\", at: \"\", manager: \"\", package: \"\", release: \"\", only: None, doc: None, comments: Raw, details: false, include: [], include_packages: [], well_known: false, encoding: Utf8, dialect: Proto3(Refuse), faulty: Refuse, duplicates: Refuse, explain: false, exclude: [], links: Ignore, sources: None, report: ReportOptions { path: None, format: JsonLines } }, out: \"out\", quiet: false, limits: Limits { max_skipped: None, min_sources: None } })",
+        request: "Index(IndexRequest { options: IndexOptions { root: \"api\", is_real: false, workers: Workers { count: 4 }, project_root: \"file:///\", at: \"\", manager: \"\", package: \"\", release: \"\", only: None, doc: None, comments: Raw, details: false, include: [], include_packages: [], well_known: false, encoding: Utf8, dialect: Proto3(Refuse), links_options: false, faulty: Refuse, duplicates: Refuse, explain: false, exclude: [], links: Ignore, sources: None, report: ReportOptions { path: None, format: JsonLines } }, out: \"out\", quiet: false, limits: Limits { max_skipped: None, min_sources: None } })",
     },
     Asked {
-        words: "index --workers 2 --quiet --max-skipped 3 --min-sources=812 --report f --report-format sarif --project-root u --at d/.e --manager m --package p --release r --only o --doc both --comments clean --details --include j --include i --positions utf16 --accept all --custom-options skip --faulty skip --duplicates keep --explain api out",
-        request: "Index(IndexRequest { options: IndexOptions { root: \"api\", is_real: false, workers: Workers { count: 2 }, project_root: \"u\", at: \"d/.e\", manager: \"m\", package: \"p\", release: \"r\", only: Some(\"o\"), doc: Some(Both), comments: Clean, details: true, include: [\"j\", \"i\"], include_packages: [], well_known: false, encoding: Utf16, dialect: All, faulty: Skip, duplicates: Keep, explain: true, exclude: [], links: Ignore, sources: None, report: ReportOptions { path: Some(\"f\"), format: Sarif } }, out: \"out\", quiet: true, limits: Limits { max_skipped: Some(3), min_sources: Some(812) } })",
+        words: "index --workers 2 --quiet --max-skipped 3 --min-sources=812 --report f --report-format sarif --project-root u --at d/.e --manager m --package p --release r --only o --doc both --comments clean --details --include j --include i --positions utf16 --accept all --custom-options skip --options link --faulty skip --duplicates keep --explain api out",
+        request: "Index(IndexRequest { options: IndexOptions { root: \"api\", is_real: false, workers: Workers { count: 2 }, project_root: \"u\", at: \"d/.e\", manager: \"m\", package: \"p\", release: \"r\", only: Some(\"o\"), doc: Some(Both), comments: Clean, details: true, include: [\"j\", \"i\"], include_packages: [], well_known: false, encoding: Utf16, dialect: All, links_options: true, faulty: Skip, duplicates: Keep, explain: true, exclude: [], links: Ignore, sources: None, report: ReportOptions { path: Some(\"f\"), format: Sarif } }, out: \"out\", quiet: true, limits: Limits { max_skipped: Some(3), min_sources: Some(812) } })",
     },
     Asked {
-        words: "shell --more --workers 16 --project-root=u --at=.../-d --manager=m --package=p --release=r --report=f --report-format=jsonl --only=o --doc=trailing --comments=raw --include=i --positions=utf8 --accept=proto3 --custom-options=refuse --faulty=refuse -- -api",
-        request: "Shell(ShellRequest { options: IndexOptions { root: \"-api\", is_real: false, workers: Workers { count: 16 }, project_root: \"u\", at: \".../-d\", manager: \"m\", package: \"p\", release: \"r\", only: Some(\"o\"), doc: Some(Trailing), comments: Raw, details: false, include: [\"i\"], include_packages: [], well_known: false, encoding: Utf8, dialect: Proto3(Refuse), faulty: Refuse, duplicates: Refuse, explain: false, exclude: [], links: Ignore, sources: None, report: ReportOptions { path: Some(\"f\"), format: JsonLines } }, more: true })",
+        words: "shell --more --workers 16 --project-root=u --at=.../-d --manager=m --package=p --release=r --report=f --report-format=jsonl --only=o --doc=trailing --comments=raw --include=i --positions=utf8 --accept=proto3 --custom-options=refuse --options=skip --faulty=refuse -- -api",
+        request: "Shell(ShellRequest { options: IndexOptions { root: \"-api\", is_real: false, workers: Workers { count: 16 }, project_root: \"u\", at: \".../-d\", manager: \"m\", package: \"p\", release: \"r\", only: Some(\"o\"), doc: Some(Trailing), comments: Raw, details: false, include: [\"i\"], include_packages: [], well_known: false, encoding: Utf8, dialect: Proto3(Refuse), links_options: false, faulty: Refuse, duplicates: Refuse, explain: false, exclude: [], links: Ignore, sources: None, report: ReportOptions { path: Some(\"f\"), format: JsonLines } }, more: true })",
     },
     Asked {
         words: "index api --include a --include-package m n r d --include b out --include-package '' '' '' e --include c",
-        request: "Index(IndexRequest { options: IndexOptions { root: \"api\", is_real: false, workers: Workers { count: 4 }, project_root: \"file:///\", at: \"\", manager: \"\", package: \"\", release: \"\", only: None, doc: None, comments: Raw, details: false, include: [\"a\", \"b\", \"c\"], include_packages: [PackageFolder { manager: \"m\", name: \"n\", release: \"r\", folder: \"d\" }, PackageFolder { manager: \"\", name: \"\", release: \"\", folder: \"e\" }], well_known: false, encoding: Utf8, dialect: Proto3(Refuse), faulty: Refuse, duplicates: Refuse, explain: false, exclude: [], links: Ignore, sources: None, report: ReportOptions { path: None, format: JsonLines } }, out: \"out\", quiet: false, limits: Limits { max_skipped: None, min_sources: None } })",
+        request: "Index(IndexRequest { options: IndexOptions { root: \"api\", is_real: false, workers: Workers { count: 4 }, project_root: \"file:///\", at: \"\", manager: \"\", package: \"\", release: \"\", only: None, doc: None, comments: Raw, details: false, include: [\"a\", \"b\", \"c\"], include_packages: [PackageFolder { manager: \"m\", name: \"n\", release: \"r\", folder: \"d\" }, PackageFolder { manager: \"\", name: \"\", release: \"\", folder: \"e\" }], well_known: false, encoding: Utf8, dialect: Proto3(Refuse), links_options: false, faulty: Refuse, duplicates: Refuse, explain: false, exclude: [], links: Ignore, sources: None, report: ReportOptions { path: None, format: JsonLines } }, out: \"out\", quiet: false, limits: Limits { max_skipped: None, min_sources: None } })",
     },
     Asked {
         words: "index api out --max-skipped +0 --min-sources 04294967295 --report f",
-        request: "Index(IndexRequest { options: IndexOptions { root: \"api\", is_real: false, workers: Workers { count: 4 }, project_root: \"file:///\", at: \"\", manager: \"\", package: \"\", release: \"\", only: None, doc: None, comments: Raw, details: false, include: [], include_packages: [], well_known: false, encoding: Utf8, dialect: Proto3(Refuse), faulty: Refuse, duplicates: Refuse, explain: false, exclude: [], links: Ignore, sources: None, report: ReportOptions { path: Some(\"f\"), format: JsonLines } }, out: \"out\", quiet: false, limits: Limits { max_skipped: Some(0), min_sources: Some(4294967295) } })",
+        request: "Index(IndexRequest { options: IndexOptions { root: \"api\", is_real: false, workers: Workers { count: 4 }, project_root: \"file:///\", at: \"\", manager: \"\", package: \"\", release: \"\", only: None, doc: None, comments: Raw, details: false, include: [], include_packages: [], well_known: false, encoding: Utf8, dialect: Proto3(Refuse), links_options: false, faulty: Refuse, duplicates: Refuse, explain: false, exclude: [], links: Ignore, sources: None, report: ReportOptions { path: Some(\"f\"), format: JsonLines } }, out: \"out\", quiet: false, limits: Limits { max_skipped: Some(0), min_sources: Some(4294967295) } })",
     },
     Asked {
         words: "index api --exclude .git --links follow --exclude=a/**/b out --well-known",
-        request: "Index(IndexRequest { options: IndexOptions { root: \"api\", is_real: false, workers: Workers { count: 4 }, project_root: \"file:///\", at: \"\", manager: \"\", package: \"\", release: \"\", only: None, doc: None, comments: Raw, details: false, include: [], include_packages: [], well_known: true, encoding: Utf8, dialect: Proto3(Refuse), faulty: Refuse, duplicates: Refuse, explain: false, exclude: [\".git\", \"a/**/b\"], links: Follow, sources: None, report: ReportOptions { path: None, format: JsonLines } }, out: \"out\", quiet: false, limits: Limits { max_skipped: None, min_sources: None } })",
+        request: "Index(IndexRequest { options: IndexOptions { root: \"api\", is_real: false, workers: Workers { count: 4 }, project_root: \"file:///\", at: \"\", manager: \"\", package: \"\", release: \"\", only: None, doc: None, comments: Raw, details: false, include: [], include_packages: [], well_known: true, encoding: Utf8, dialect: Proto3(Refuse), links_options: false, faulty: Refuse, duplicates: Refuse, explain: false, exclude: [\".git\", \"a/**/b\"], links: Follow, sources: None, report: ReportOptions { path: None, format: JsonLines } }, out: \"out\", quiet: false, limits: Limits { max_skipped: None, min_sources: None } })",
     },
     Asked {
         words: "index api --real --include i out",
-        request: "Index(IndexRequest { options: IndexOptions { root: \"api\", is_real: true, workers: Workers { count: 4 }, project_root: \"file:///\", at: \"\", manager: \"\", package: \"\", release: \"\", only: None, doc: Some(Both), comments: Clean, details: true, include: [\"i\"], include_packages: [], well_known: true, encoding: Utf8, dialect: All, faulty: Skip, duplicates: Keep, explain: false, exclude: [], links: Ignore, sources: None, report: ReportOptions { path: None, format: JsonLines } }, out: \"out\", quiet: false, limits: Limits { max_skipped: None, min_sources: None } })",
+        request: "Index(IndexRequest { options: IndexOptions { root: \"api\", is_real: true, workers: Workers { count: 4 }, project_root: \"file:///\", at: \"\", manager: \"\", package: \"\", release: \"\", only: None, doc: Some(Both), comments: Clean, details: true, include: [\"i\"], include_packages: [], well_known: true, encoding: Utf8, dialect: All, links_options: true, faulty: Skip, duplicates: Keep, explain: false, exclude: [], links: Ignore, sources: None, report: ReportOptions { path: None, format: JsonLines } }, out: \"out\", quiet: false, limits: Limits { max_skipped: None, min_sources: None } })",
+    },
+    Asked {
+        words: "shell --options skip --real api",
+        request: "Shell(ShellRequest { options: IndexOptions { root: \"api\", is_real: true, workers: Workers { count: 4 }, project_root: \"file:///\", at: \"\", manager: \"\", package: \"\", release: \"\", only: None, doc: Some(Both), comments: Clean, details: true, include: [], include_packages: [], well_known: true, encoding: Utf8, dialect: All, links_options: false, faulty: Skip, duplicates: Keep, explain: false, exclude: [], links: Ignore, sources: None, report: ReportOptions { path: None, format: JsonLines } }, more: false })",
     },
     Asked {
         words: "shell --accept proto3 --custom-options skip --faulty refuse --duplicates refuse --doc nothing --comments raw --real api",
-        request: "Shell(ShellRequest { options: IndexOptions { root: \"api\", is_real: true, workers: Workers { count: 4 }, project_root: \"file:///\", at: \"\", manager: \"\", package: \"\", release: \"\", only: None, doc: Some(Nothing), comments: Raw, details: true, include: [], include_packages: [], well_known: true, encoding: Utf8, dialect: Proto3(Skip), faulty: Refuse, duplicates: Refuse, explain: false, exclude: [], links: Ignore, sources: None, report: ReportOptions { path: None, format: JsonLines } }, more: false })",
+        request: "Shell(ShellRequest { options: IndexOptions { root: \"api\", is_real: true, workers: Workers { count: 4 }, project_root: \"file:///\", at: \"\", manager: \"\", package: \"\", release: \"\", only: None, doc: Some(Nothing), comments: Raw, details: true, include: [], include_packages: [], well_known: true, encoding: Utf8, dialect: Proto3(Skip), links_options: false, faulty: Refuse, duplicates: Refuse, explain: false, exclude: [], links: Ignore, sources: None, report: ReportOptions { path: None, format: JsonLines } }, more: false })",
     },
     Asked {
         words: "snapshot a.scip api",
@@ -160,7 +166,7 @@ static ASKED: [Asked; 23] = [
     },
     Asked {
         words: "index api out --sources -",
-        request: "Index(IndexRequest { options: IndexOptions { root: \"api\", is_real: false, workers: Workers { count: 4 }, project_root: \"file:///\", at: \"\", manager: \"\", package: \"\", release: \"\", only: None, doc: None, comments: Raw, details: false, include: [], include_packages: [], well_known: false, encoding: Utf8, dialect: Proto3(Refuse), faulty: Refuse, duplicates: Refuse, explain: false, exclude: [], links: Ignore, sources: Some(SourceList { file: \"-\", listed: [] }), report: ReportOptions { path: None, format: JsonLines } }, out: \"out\", quiet: false, limits: Limits { max_skipped: None, min_sources: None } })",
+        request: "Index(IndexRequest { options: IndexOptions { root: \"api\", is_real: false, workers: Workers { count: 4 }, project_root: \"file:///\", at: \"\", manager: \"\", package: \"\", release: \"\", only: None, doc: None, comments: Raw, details: false, include: [], include_packages: [], well_known: false, encoding: Utf8, dialect: Proto3(Refuse), links_options: false, faulty: Refuse, duplicates: Refuse, explain: false, exclude: [], links: Ignore, sources: Some(SourceList { file: \"-\", listed: [] }), report: ReportOptions { path: None, format: JsonLines } }, out: \"out\", quiet: false, limits: Limits { max_skipped: None, min_sources: None } })",
     },
     Asked {
         words: "join all a",
@@ -271,6 +277,19 @@ error: invalid value 'proto2' for '--accept <WORD>'
 dump --custom-options keep
 error: invalid value 'keep' for '--custom-options <WORD>'
   [possible values: refuse, skip]
+
+index api out --options keep
+error: invalid value 'keep' for '--options <WORD>'
+  [possible values: skip, link]
+
+index api out --options link
+error: '--options link' needs '--accept all'
+
+shell --real --accept proto3 --options link api
+error: '--options link' needs '--accept all'
+
+dump --options skip
+error: unexpected argument '--options' found
 
 index api out --faulty
 error: a value is required for '--faulty <WORD>' but none was supplied

@@ -71,6 +71,7 @@ fn own_settings(alloc: Global) -> Result<Settings> {
         dialect: Dialect::Proto3(CustomOptions::Refuse),
         comments: CommentForm::Raw,
         details: false,
+        options: false,
         faulty: Faulty::Refuse,
         duplicates: Duplicates::Refuse,
     })

@@ -11,7 +11,8 @@ use Rattle.protoscip.specs.Explanations.{IsFaultText}
 use Rattle.protoscip.specs.FaultTexts.{status_of}
 use Rattle.protoscip.specs.declared.fault.Fault.{Fault}
 use Rattle.protoscip.specs.declared.fault.Fault.TheVariants.{Spawn, Memory, Lex, Syntax, Duplicate, MissingImport}
-use Rattle.protoscip.specs.declared.fault.Fault.TheVariants.{Unresolved, Ambiguous, Uncertain, TooLarge, Write, Read, Answer}
+use Rattle.protoscip.specs.declared.fault.Fault.TheVariants.{Unresolved, Ambiguous, OptionGap, Uncertain}
+use Rattle.protoscip.specs.declared.fault.Fault.TheVariants.{TooLarge, Write, Read, Answer}
 use Rattle.programs.specs.Dumping.{EndsDump, IsTreeOfDump, is_write}
 use Rattle.programs.specs.Messages.{TellsOne}
 use Rattle.programs.specs.Printing.{EndsCut}
@@ -56,6 +57,7 @@ module _ {R M : Type 0} (dialect : Dialect) (explain : Option Dialect) (closed :
   of_fault (MissingImport place) tree is said_so = of_source (MissingImport place) tree (λ kept read. read) is said_so
   of_fault (Unresolved place) tree is said_so = of_source (Unresolved place) tree (λ kept read. read) is said_so
   of_fault (Ambiguous place) tree is said_so = of_source (Ambiguous place) tree (λ kept read. read) is said_so
+  of_fault (OptionGap place) tree is said_so = of_source (OptionGap place) tree (λ kept read. read) is said_so
   of_fault (Uncertain place behind) tree is said_so =
       of_source (Uncertain place behind) tree (λ kept read. read) is said_so
   of_fault TooLarge tree is said_so = of_source TooLarge tree (λ kept read. read) is said_so

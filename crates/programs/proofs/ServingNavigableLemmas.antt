@@ -16,7 +16,8 @@ use Rattle.source_files.specs.declared.load_fault.LoadFault.TheVariants as load
 use Rattle.protoscip.specs.FaultTexts.{lex_text, status_of, syntax_text}
 use Rattle.protoscip.specs.declared.fault.Fault.{Fault}
 use Rattle.protoscip.specs.declared.fault.Fault.TheVariants.{Spawn, Memory, Lex, Syntax, Duplicate, MissingImport}
-use Rattle.protoscip.specs.declared.fault.Fault.TheVariants.{Unresolved, Ambiguous, Uncertain, TooLarge, Write, Read, Answer}
+use Rattle.protoscip.specs.declared.fault.Fault.TheVariants.{Unresolved, Ambiguous, OptionGap, Uncertain}
+use Rattle.protoscip.specs.declared.fault.Fault.TheVariants.{TooLarge, Write, Read, Answer}
 use Rattle.programs.specs.Indexing.{Indexed, WritesNavigable, into_part, too_poor}
 use Rattle.programs.specs.Indexing as indexing
 use Rattle.programs.specs.Limits.{limit_status}
@@ -69,6 +70,7 @@ fails (Duplicate first second) = tt
 fails (MissingImport place) = tt
 fails (Unresolved place) = tt
 fails (Ambiguous place) = tt
+fails (OptionGap place) = tt
 fails (Uncertain place behind) = tt
 fails TooLarge = tt
 fails (Write count) = tt

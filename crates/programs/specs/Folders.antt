@@ -31,9 +31,9 @@ included_in options =
     map string_bytes options.include.items
     ++ map (λ folder. string_bytes folder.folder) options.include_packages.items
 
--- all folders whose files are read: that of the sources first
-abbrev pub all_folders : IndexOptions → List (List ℕ)
-all_folders options = string_bytes options.root ∷ included_in options
+-- the folders whose files are read: the root, and then those with included files
+abbrev pub roots_in : IndexOptions → List (List ℕ)
+roots_in options = string_bytes options.root ∷ included_in options
 
 -- the packages of the folders with included files
 abbrev pub included_packages : IndexOptions → List Package
@@ -87,7 +87,7 @@ IsLoadedFrom lists gives finds options None tree own others unread =
     others unread
 IsLoadedFrom lists gives finds options (Some list) tree own others unread =
     (paths : List (List ℕ)) × AreSourcesListed options list paths
-    × IsTreeListed finds gives (TellsIn options.dialect) (leaves_out options.faulty) (all_folders options) paths
+    × IsTreeListed finds gives (TellsIn options.dialect) (leaves_out options.faulty) (roots_in options) paths
     tree own others unread
 
 -- the tree is that of the files below the folders, or of a list, as they are read in the options' dialect; this

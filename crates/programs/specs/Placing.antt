@@ -13,7 +13,7 @@ use Rattle.command_line.specs.declared.options.IndexRequest.{IndexRequest}
 use Rattle.protoscip.specs.declared.fault.Fault.{Fault}
 use Rattle.protoscip.specs.declared.fault.Fault.TheVariants.{Write}
 use Rattle.protoscip.specs.declared.recorded.Recorded.{Recorded}
-use Rattle.programs.specs.Folders.{included_in}
+use Rattle.programs.specs.Folders.{roots_in}
 use Rattle.programs.specs.declared.limits.LimitFault.{LimitFault}
 use Rattle.programs.specs.declared.start_fault.StartFault.{StartFault}
 use Rattle.programs.specs.declared.start_fault.StartFault.TheVariants.{IsSource, Load, ReportIsOut, ReportIsSource}
@@ -116,10 +116,6 @@ pub data IsUnput {P W : Type 0} (at : Place P W) (bytes : List ℕ) : Type 0 whe
       → IsCutOff (writing at.sink begun left) bytes count → IsGivenUp at left → IsUnput at bytes
   refused : (begun whole : W) → IsBegun at.sink.contents at.sink.failures begun
       → IsWritten (writing at.sink begun whole) bytes → IsRefused at whole → IsUnput at bytes
-
--- the folders whose files are read: the root, and then those with included files
-abbrev pub roots_in : IndexOptions → List (List ℕ)
-roots_in options = string_bytes options.root ∷ included_in options
 
 -- whether one of the files that were read is said to be the one at a place
 abbrev pub IsRead : {P W : Type 0} → Place P W → IndexOptions → List TreeFile → Bool → Type 0

@@ -22,7 +22,8 @@ use Rattle.protoscip.specs.FaultTexts.{status_of}
 use Rattle.protoscip.specs.declared.recorded.Recorded.{Recorded}
 use Rattle.protoscip.specs.declared.fault.Fault.{Fault}
 use Rattle.protoscip.specs.declared.fault.Fault.TheVariants.{Spawn, Memory, Lex, Syntax, Duplicate, MissingImport}
-use Rattle.protoscip.specs.declared.fault.Fault.TheVariants.{Unresolved, Ambiguous, Uncertain, TooLarge, Write, Read, Answer}
+use Rattle.protoscip.specs.declared.fault.Fault.TheVariants.{Unresolved, Ambiguous, OptionGap, Uncertain}
+use Rattle.protoscip.specs.declared.fault.Fault.TheVariants.{TooLarge, Write, Read, Answer}
 use Rattle.command_line.specs.declared.options.limits.Limits.{Limits}
 use Rattle.command_line.specs.declared.options.report.ReportOptions.{ReportOptions}
 use Rattle.programs.specs.Limits.{IsBrokenBy, limit_status}
@@ -50,6 +51,7 @@ is_of_files (Duplicate first second) = true
 is_of_files (MissingImport place) = true
 is_of_files (Unresolved place) = true
 is_of_files (Ambiguous place) = true
+is_of_files (OptionGap place) = true
 is_of_files (Uncertain place behind) = true
 is_of_files TooLarge = false
 is_of_files (Write count) = false
@@ -60,7 +62,8 @@ is_of_files (Answer count) = false
 abbrev pub IsToldBeside : (allows : Seen → Choice → Type 0) → Settings → List TreeFile → Fault
     → (told : List Omission) → Type 0
 IsToldBeside allows settings tree fault told =
-    (is_of_files fault ≡ true → IsToldOf allows settings.dialect tree told) × (is_of_files fault ≡ false → told ≡ [])
+    (is_of_files fault ≡ true → IsToldOf allows settings.dialect settings.options tree told)
+    × (is_of_files fault ≡ false → told ≡ [])
 
 -- its findings, and what they are counted by: what couldn't be read, and what the index lacks; or the fault, and what
 -- is told beside it. Of a run that is refused nothing is told that couldn't be read: if that isn't the fault itself,

@@ -9,7 +9,7 @@ use Rattle.command_line.specs.declared.request.Request.{Request}
 use Rattle.command_line.specs.declared.request.Request.TheVariants as request
 use Rattle.source_files.specs.Exclusions.{FindsWithout, ListsWithout}
 use Rattle.source_files.specs.Listings.{Listing}
-use Rattle.programs.specs.Placing.{roots_in}
+use Rattle.programs.specs.Folders.{roots_in}
 
 -- whether links are followed: those of a list lead where they lead
 abbrev pub follows_links : Links → Bool

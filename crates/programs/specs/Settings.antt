@@ -34,6 +34,7 @@ settings_in options ids = record {
   dialect = options.dialect;
   comments = options.comments;
   details = options.details;
+  options = options.links_options;
   faulty = options.faulty;
   duplicates = options.duplicates;
 }

@@ -17,7 +17,7 @@ use Rattle.command_line.specs.declared.options.sources.SourceList.{SourceList}
 use Rattle.programs.specs.declared.start_fault.StartFault.{StartFault}
 use Rattle.programs.specs.declared.start_fault.StartFault.TheVariants.{BadPart, BadFolder, Load, Unlisted}
 use Rattle.programs.specs.Settings.{leaves_out, package_in}
-use Rattle.programs.specs.Folders.{AreSourcesListed, HasBadFolder, NamePackages, all_folders, folder_package}
+use Rattle.programs.specs.Folders.{AreSourcesListed, HasBadFolder, NamePackages, folder_package, roots_in}
 use Rattle.programs.specs.Folders.{included_in}
 use Rattle.programs.specs.Imports.{TellsIn}
 
@@ -77,7 +77,7 @@ abbrev pub MayNotLoadList : (gives : List ℕ → Option (List ℕ) → Type 0) 
     → IndexOptions → SourceList → LoadFault → Type 0
 MayNotLoadList gives finds options list fault =
     (paths : List (List ℕ)) × AreSourcesListed options list paths
-    × MayNotLoadListed finds gives (TellsIn options.dialect) (leaves_out options.faulty) (all_folders options)
+    × MayNotLoadListed finds gives (TellsIn options.dialect) (leaves_out options.faulty) (roots_in options)
     paths fault
 
 -- why a program about the tree of a list doesn't start: what can't be read is the fault of its line if, and only if, it

@@ -12,8 +12,7 @@ use Rattle.source_files.specs.WellKnown.{IsWellKnown}
 use Rattle.command_line.specs.declared.options.IndexOptions.{IndexOptions}
 use Rattle.command_line.specs.declared.request.Request.{Request}
 use Rattle.command_line.specs.declared.request.Request.TheVariants as request
-use Rattle.programs.specs.Folders.{included_in, included_packages}
-use Rattle.programs.specs.Placing.{roots_in}
+use Rattle.programs.specs.Folders.{included_in, included_packages, roots_in}
 use Rattle.programs.specs.Settings.{package_in}
 
 -- what the system gives for a variable: its text; none if there is none, or if it isn't UTF-8

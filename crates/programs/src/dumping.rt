@@ -40,6 +40,7 @@ fn is_write(fault: &Fault) -> bool
         | Fault::MissingImport(_)
         | Fault::Unresolved(_)
         | Fault::Ambiguous(_)
+        | Fault::OptionGap(_)
         | Fault::Uncertain(..)
         | Fault::TooLarge
         | Fault::Read

@@ -12,9 +12,9 @@ ghost use Rattle.programs.specs.Folders.{
   folder_package,
   included_in,
   included_packages,
+  roots_in,
   roots_of,
 };
-ghost use Rattle.programs.specs.Placing.{roots_in};
 ghost use Rattle.programs.specs.Starting.{HasNoPackage, IsBadFolder, MayNotStart, NameNoPackages, NamesNone};
 
 use crate::listed_folders::folders_of_list;

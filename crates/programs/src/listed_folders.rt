@@ -5,7 +5,7 @@ ghost use Rattle.std.specs.Prelude.{Some, string_bytes};
 ghost use Rattle.std.specs.Fmt.{decimal};
 ghost use Rattle.source_files.specs.Exclusions.{PathsStay};
 ghost use Rattle.source_files.specs.ListedTrees.{IsTreeListed};
-ghost use Rattle.programs.specs.Folders.{AreFolders, AreSourcesListed, NamePackages, all_folders};
+ghost use Rattle.programs.specs.Folders.{AreFolders, AreSourcesListed, NamePackages, roots_in};
 ghost use Rattle.programs.specs.Imports.{TellsIn};
 ghost use Rattle.programs.specs.Settings.{leaves_out};
 ghost use Rattle.programs.specs.Starting.{IsFaultOf, IsLineOf, MayNotStart, MayNotStartList};
@@ -127,7 +127,7 @@ fn load_list<R: Threads + Wait, G: Gate, F: ReadFiles + Sync>(
     requires { readers.now.leaves_out ≡ leaves_out options.now.faulty }
     ensures loaded { IfOk result (λ loaded. (paths : List (List ℕ)) × AreSourcesListed options.now list.now paths
         × IsTreeListed (F.finds readers.now.files.now) (F.gives readers.now.files.now) (TellsIn options.now.dialect)
-        (leaves_out options.now.faulty) (all_folders options.now) paths loaded.tree (map string_bytes loaded.own.items)
+        (leaves_out options.now.faulty) (roots_in options.now) paths loaded.tree (map string_bytes loaded.own.items)
         (map (λ here. map string_bytes here.items) loaded.others.items) (map string_bytes loaded.unread.items)) }
     ensures stops { IfErr result (MayNotStartList (F.gives readers.now.files.now) (F.finds readers.now.files.now)
         options.now list.now) }

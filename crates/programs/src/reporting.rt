@@ -92,6 +92,7 @@ fn is_of_files(fault: &Fault) -> bool
         | Fault::MissingImport(_)
         | Fault::Unresolved(_)
         | Fault::Ambiguous(_)
+        | Fault::OptionGap(_)
         | Fault::Uncertain(..) => true,
         Fault::Spawn
         | Fault::Memory
@@ -184,6 +185,7 @@ impl<R: Threads + Wait> Reporter<'_, R> {
             &self.run.tree,
             &self.run.choices,
             self.run.settings.dialect,
+            self.run.settings.options,
         )
     }
 

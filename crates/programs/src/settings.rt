@@ -37,6 +37,7 @@ pub(crate) fn settings_of(
         dialect: options.dialect,
         comments: options.comments,
         details: options.details,
+        options: options.links_options,
         faulty: options.faulty,
         duplicates: options.duplicates,
     })

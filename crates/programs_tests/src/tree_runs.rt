@@ -19,7 +19,7 @@ pub(crate) const DOUBT: &[u8] = b"\n\x1C\x12\x0E\n\tprotoscip\x12\x011\x1A\x08fi
 \"\x08Protobuf0\x01\
 \x1A\x1B\n\x16scip-protobuf . . . T#2\x01T\0";
 
-static ROWS: [Row; 39] = [
+static ROWS: [Row; 42] = [
     Row {
         words: "index api out",
         written: b"\x0A\x1C\x12\x0E\x0A\x09protoscip\x12\x011\x1A\x08file:///\x20\x01\
@@ -243,6 +243,26 @@ protoscip: TooFewSources\n",
         words: "shell said --doc both --only A --positions utf16 --custom-options skip --release r --workers 1",
         input: "doc 3 8 a.proto\ndef 5 16 a.proto\nsym a.proto",
         printed: "| One.\n| Two.\n= 2\n? nothing there\nscip-protobuf . . r A#\nscip-protobuf . . r `a.proto`/\n= 2\n\0",
+        ..SILENT
+    },
+    // of `option (x)`, which nothing declares
+    Row {
+        words: "index said out --accept all --options link",
+        status: 1,
+        said: "protoscip: a.proto@27: Unresolved\n",
+        ..SILENT
+    },
+    Row {
+        words: "shell said --accept all --options link --faulty skip --explain",
+        said: "protoscip: no target: a.proto@27: Option
+a.proto:2:9: nothing that may stand in this option has this name
+  2 | option (x) = 1;
+    |         ^
+protoscip: 1 sources indexed, 0 skipped, 0 imports and 1 uses without a target\n",
+        ..SILENT
+    },
+    Row {
+        words: "shell said --real --options skip",
         ..SILENT
     },
     Row {

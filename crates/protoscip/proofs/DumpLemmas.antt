@@ -25,6 +25,7 @@ use Rattle.scip_build.specs.Files.{FileContents, ReadFile}
 use Rattle.scip_build.specs.Parsed.{IsUnreadable}
 use Rattle.scip_build.specs.declared.faulty.Faulty.TheVariants.{Refuse}
 use Rattle.scip_build.specs.ParsedFiles.{HasContents, AreParsedFiles, IsFirstFaulty}
+use Rattle.scip_build.specs.declared.read_form.ReadForm.{ReadForm}
 use Rattle.scip_build.specs.declared.built.Built.{Built}
 use Rattle.scip_build.specs.declared.settings.Settings.{Settings}
 use Rattle.scip_build.specs.declared.fault.BuildFault.{BuildFault}
@@ -68,6 +69,7 @@ module _ (dialect : Dialect) (bytes : List ℕ) (settings : Settings) (tree : Li
   by_refusal (fault.MissingImport place) is = (tree, read, is)
   by_refusal (fault.Unresolved place) is = (tree, read, is)
   by_refusal (fault.Ambiguous place) is = (tree, read, is)
+  by_refusal (fault.OptionGap place) is = (tree, read, is)
   by_refusal (fault.Uncertain place behind) is = (tree, read, is)
   by_refusal fault.TooLarge is = (tree, read, is)
   by_refusal (fault.Write count) is = (tree, read, is)
@@ -118,18 +120,22 @@ whole : (P : List ℕ → Type 0) (bytes : List ℕ) → length (kept_bytes byte
     → P bytes
 whole P bytes short p = subst P (all_kept bytes short) p
 
+-- in the form in which a dump reads
+abbrev plain_read : ReadForm
+plain_read = record { facts = plain_form; options = false }
+
 -- a source that was read isn't too long
 module _ (dialect : Dialect) (bytes : List ℕ) where
   abbrev pub alone : TreeFile
   alone = record { path = source_path; bytes = bytes; text = bytes; is_included = false }
 
   short_contents : (contents : Result FileContents FileFault)
-      → HasContents Refuse dialect plain_form default_choices zero alone contents → length bytes ≤ max_text_length
+      → HasContents Refuse dialect plain_read default_choices zero alone contents → length bytes ≤ max_text_length
   short_contents (Ok contents) has = has.1.facts_in.lexing.text.short
   short_contents (Err e) has = absurd (let same : false ≡ true = has.0 in cc)
 
   pub short_source : (parsed : List ReadFile)
-      → AreParsedFiles Refuse dialect plain_form default_choices (dump_tree bytes) parsed
+      → AreParsedFiles Refuse dialect plain_read default_choices (dump_tree bytes) parsed
       → length bytes ≤ max_text_length
   short_source [] are = absurd (let none = are.one_each in omega (arith, none))
   short_source (parsed_file ∷ others) are = short_contents parsed_file.contents
@@ -192,7 +198,7 @@ module _ (dialect : Dialect) (bytes : List ℕ) (long : max_text_length < length
   long_faulty (suc number) e is = absurd (none-some is.file is.numbered)
 
   not_parsed : {X : Type 0} → (parsed : List ReadFile)
-      → AreParsedFiles Refuse dialect plain_form default_choices (dump_tree (kept_bytes bytes)) parsed → X
+      → AreParsedFiles Refuse dialect plain_read default_choices (dump_tree (kept_bytes bytes)) parsed → X
   not_parsed parsed are = absurd (omega (arith, long, short_source dialect (kept_bytes bytes) parsed are))
 
   long_fault : (number : ℕ) (e : FileFault)
@@ -212,6 +218,7 @@ module _ (dialect : Dialect) (bytes : List ℕ) (long : max_text_length < length
   long_refused (fault.MissingImport place) is = not_parsed is.1.0 is.1.1
   long_refused (fault.Unresolved place) is = not_parsed is.1.0 is.1.1
   long_refused (fault.Ambiguous place) is = not_parsed is.1.0 is.1.1
+  long_refused (fault.OptionGap place) is = is
   long_refused (fault.Uncertain place behind) is = is
   long_refused fault.TooLarge is = not_parsed is.1.all is.1.read
   long_refused (fault.Write count) is = is
@@ -239,6 +246,7 @@ module _ (dialect : Dialect) (bytes : List ℕ) (long : max_text_length < length
   long_refusal (fault.MissingImport place) is = of_kept (fault.MissingImport place) is.0 is.1 is.2
   long_refusal (fault.Unresolved place) is = of_kept (fault.Unresolved place) is.0 is.1 is.2
   long_refusal (fault.Ambiguous place) is = of_kept (fault.Ambiguous place) is.0 is.1 is.2
+  long_refusal (fault.OptionGap place) is = of_kept (fault.OptionGap place) is.0 is.1 is.2
   long_refusal (fault.Uncertain place behind) is = of_kept (fault.Uncertain place behind) is.0 is.1 is.2
   long_refusal fault.TooLarge is = of_kept fault.TooLarge is.0 is.1 is.2
   long_refusal (fault.Write count) is = of_kept (fault.Write count) is.0 is.1 is.2
@@ -249,7 +257,7 @@ module _ (dialect : Dialect) (bytes : List ℕ) (long : max_text_length < length
   long_listing listing is =
       let built = is.indexed.built in
       not_parsed built.all
-      (subst (λ (t : List TreeFile). AreParsedFiles Refuse dialect plain_form default_choices t built.all)
+      (subst (λ (t : List TreeFile). AreParsedFiles Refuse dialect plain_read default_choices t built.all)
       (long_tree dialect (kept_bytes bytes) long is.tree is.read) built.read)
 
 module _ (dialect : Dialect) (bytes : List ℕ) where
@@ -277,6 +285,7 @@ module _ (dialect : Dialect) (bytes : List ℕ) where
   refused_dumps due (fault.MissingImport place) is = is
   refused_dumps due (fault.Unresolved place) is = is
   refused_dumps due (fault.Ambiguous place) is = is
+  refused_dumps due (fault.OptionGap place) is = absurd is.2
   refused_dumps due (fault.Uncertain place behind) is = absurd is.2
   refused_dumps due fault.TooLarge is = is
   refused_dumps due (fault.Write count) is = absurd is.2
@@ -294,6 +303,7 @@ module _ (dialect : Dialect) (bytes : List ℕ) where
   refused_writer sink out due (fault.MissingImport place) is = refl
   refused_writer sink out due (fault.Unresolved place) is = refl
   refused_writer sink out due (fault.Ambiguous place) is = refl
+  refused_writer sink out due (fault.OptionGap place) is = absurd is.2
   refused_writer sink out due (fault.Uncertain place behind) is = absurd is.2
   refused_writer sink out due fault.TooLarge is = refl
   refused_writer sink out due (fault.Write count) is = absurd is.2
@@ -312,6 +322,7 @@ more_files (fault.Duplicate first second) tree others more has =
 more_files (fault.MissingImport place) tree others more has = omega (arith, has, more)
 more_files (fault.Unresolved place) tree others more has = omega (arith, has, more)
 more_files (fault.Ambiguous place) tree others more has = omega (arith, has, more)
+more_files (fault.OptionGap place) tree others more has = omega (arith, has, more)
 more_files (fault.Uncertain place behind) tree others more has =
     (omega (arith, has.0, more), omega (arith, has.1, more))
 more_files fault.TooLarge tree others more has = tt
@@ -352,6 +363,7 @@ module _ (dialect : Dialect) (bytes : List ℕ) where
   dump_files (fault.Ambiguous place) is others some =
       more_files (fault.Ambiguous place) is.0 others (one_file is.0 is.1 others some)
       (files_of_build default_choices (dump_settings dialect) is.0 1 (build.Ambiguous place) is.2)
+  dump_files (fault.OptionGap place) is others some = absurd is.2
   dump_files (fault.Uncertain place behind) is others some = absurd is.2
   dump_files fault.TooLarge is others some = tt
   dump_files (fault.Write count) is others some = tt
@@ -402,6 +414,7 @@ module _ {R : Type 0} (dialect : Dialect) (source : Reader R) (tree : List TreeF
   tree_of_fault (fault.MissingImport place) is = is
   tree_of_fault (fault.Unresolved place) is = is
   tree_of_fault (fault.Ambiguous place) is = is
+  tree_of_fault (fault.OptionGap place) is = is
   tree_of_fault (fault.Uncertain place behind) is = is
   tree_of_fault fault.TooLarge is = is
   tree_of_fault (fault.Write count) is = is

@@ -1,5 +1,5 @@
 -- Why what is told of a tree can't be had.
-use Rattle.std.proofs.Common.{◌≡◌, ℕ, List, subst}
+use Rattle.std.proofs.Common.{◌≡◌, ℕ, Bool, List, subst}
 use Rattle.proto_decl.specs.Values.{Seen}
 use Rattle.index_hooks.specs.declared.choice.Choice.{Choice}
 use Rattle.proto_parse.specs.dialect.Dialect.{Dialect}
@@ -14,21 +14,22 @@ use Rattle.protoscip.specs.ToldTrees.{MayNotTell, skipping}
 use Rattle.protoscip.specs.ToldTrees.MayNotTell.{telling_lacks_thread, telling_lacks_memory}
 
 -- if faults are skipped, a tree is refused for want of memory or of a thread alone
-unrefused : (allows : Seen → Choice → Type 0) (dialect : Dialect) (tree : List TreeFile) (workers : ℕ)
-    (e : BuildFault) → IsBuildFault allows (skipping dialect) tree workers e
+unrefused : (allows : Seen → Choice → Type 0) (dialect : Dialect) (options : Bool) (tree : List TreeFile)
+    (workers : ℕ) (e : BuildFault) → IsBuildFault allows (skipping dialect options) tree workers e
     → MayNotTell workers (fault_of_build e)
-unrefused allows dialect tree workers build.Spawn is = telling_lacks_thread is
-unrefused allows dialect tree workers build.Memory is = telling_lacks_memory
-unrefused allows dialect tree workers (build.File number (file.Lex e)) is = let never = is.0 in absurd cc
-unrefused allows dialect tree workers (build.File number (file.Syntax e)) is = let never = is.0 in absurd cc
-unrefused allows dialect tree workers (build.Duplicate first second) is = let never = is.0 in absurd cc
-unrefused allows dialect tree workers (build.MissingImport place) is = let never = is.0 in absurd cc
-unrefused allows dialect tree workers (build.Unresolved place) is = let never = is.0 in absurd cc
-unrefused allows dialect tree workers (build.Ambiguous place) is = let never = is.0 in absurd cc
+unrefused allows dialect options tree workers build.Spawn is = telling_lacks_thread is
+unrefused allows dialect options tree workers build.Memory is = telling_lacks_memory
+unrefused allows dialect options tree workers (build.File number (file.Lex e)) is = let never = is.0 in absurd cc
+unrefused allows dialect options tree workers (build.File number (file.Syntax e)) is = let never = is.0 in absurd cc
+unrefused allows dialect options tree workers (build.Duplicate first second) is = let never = is.0 in absurd cc
+unrefused allows dialect options tree workers (build.MissingImport place) is = let never = is.0 in absurd cc
+unrefused allows dialect options tree workers (build.Unresolved place) is = let never = is.0 in absurd cc
+unrefused allows dialect options tree workers (build.Ambiguous place) is = let never = is.0 in absurd cc
 
-pub stops_so : (allows : Seen → Choice → Type 0) (settings : Settings) (dialect : Dialect) (tree : List TreeFile)
-    (workers : ℕ) (e : BuildFault) → settings ≡ skipping dialect → IsBuildFault allows settings tree workers e
+pub stops_so : (allows : Seen → Choice → Type 0) (settings : Settings) (dialect : Dialect) (options : Bool)
+    (tree : List TreeFile) (workers : ℕ) (e : BuildFault) → settings ≡ skipping dialect options
+    → IsBuildFault allows settings tree workers e
     → MayNotTell workers (fault_of_build e)
-stops_so allows settings dialect tree workers e are refused =
-    unrefused allows dialect tree workers e
+stops_so allows settings dialect options tree workers e are refused =
+    unrefused allows dialect options tree workers e
     (subst (λ (s : Settings). IsBuildFault allows s tree workers e) are refused)

@@ -91,6 +91,7 @@ fault_key (fault.MissingImport place) = ((place.file, place.span.start), (place.
 fault_key (fault.Unresolved place) = ((place.file, place.span.start), (place.span.end, 1))
 fault_key (fault.Ambiguous place) = ((place.file, place.span.start), (place.span.end, 2))
 fault_key (fault.Uncertain place behind) = ((place.file, place.span.start), (place.span.end, 3))
+fault_key (fault.OptionGap place) = ((place.file, place.span.start), (place.span.end, 4))
 fault_key other = ((0, 0), (0, 0))
 
 key_of_fault : (told : Omission) → fault_key (fault_of_omission told) ≡ told_key told
@@ -100,6 +101,7 @@ key_of_fault (omitted.Duplicate first second) = refl
 key_of_fault (omitted.MissingImport place) = refl
 key_of_fault (omitted.Unresolved place) = refl
 key_of_fault (omitted.Ambiguous place) = refl
+key_of_fault (omitted.OptionGap place) = refl
 key_of_fault (omitted.Uncertain place behind) = refl
 
 faults_apart : (told : List Omission) → IsStrictlySortedBy told_cmp told → AreApart (faults_of told)
@@ -124,6 +126,7 @@ IsOfFile (fault.Duplicate first second) = ⊤
 IsOfFile (fault.MissingImport place) = ⊤
 IsOfFile (fault.Unresolved place) = ⊤
 IsOfFile (fault.Ambiguous place) = ⊤
+IsOfFile (fault.OptionGap place) = ⊤
 IsOfFile (fault.Uncertain place behind) = ⊤
 IsOfFile fault.TooLarge = ⊥
 IsOfFile (fault.Write count) = ⊥
@@ -138,6 +141,7 @@ told_of_file (omitted.Duplicate first second) = tt
 told_of_file (omitted.MissingImport place) = tt
 told_of_file (omitted.Unresolved place) = tt
 told_of_file (omitted.Ambiguous place) = tt
+told_of_file (omitted.OptionGap place) = tt
 told_of_file (omitted.Uncertain place behind) = tt
 
 file_of : (tree : List TreeFile) (told : Omission) → HasFilesOf tree (fault_of_omission told)
@@ -148,6 +152,7 @@ file_of tree (omitted.Duplicate first second) have = have.1
 file_of tree (omitted.MissingImport place) have = have
 file_of tree (omitted.Unresolved place) have = have
 file_of tree (omitted.Ambiguous place) have = have
+file_of tree (omitted.OptionGap place) have = have
 file_of tree (omitted.Uncertain place behind) have = have.0
 
 -- where it is told, by the path of the file; it is seen from its finding
@@ -168,7 +173,9 @@ key_at kind.Fault what place = ((place.path, 0), (0, 0))
 
 -- what is told, by the fault's name
 abbrev what_by : List ℕ → ℕ
-what_by name = cond (bytes_eq name (codes "Unresolved")) 1 (cond (bytes_eq name (codes "Ambiguous")) 2 0)
+what_by name =
+    cond (bytes_eq name (codes "Unresolved")) 1
+    (cond (bytes_eq name (codes "Ambiguous")) 2 (cond (bytes_eq name (codes "Option")) 4 0))
 
 abbrev found_key : Found → PathKey
 found_key found = key_at found.kind (what_by found.name) (unwrap_or found.place no_place)
@@ -181,6 +188,7 @@ key_found tree (omitted.Duplicate first second) = refl
 key_found tree (omitted.MissingImport place) = refl
 key_found tree (omitted.Unresolved place) = refl
 key_found tree (omitted.Ambiguous place) = refl
+key_found tree (omitted.OptionGap place) = refl
 key_found tree (omitted.Uncertain place behind) = refl
 
 module _ (tree : List TreeFile) (own : HaveOwnPaths tree) where
@@ -239,6 +247,7 @@ same_fault (fault.Duplicate first second) of = same_number second.file
 same_fault (fault.MissingImport place) of = same_place place
 same_fault (fault.Unresolved place) of = same_place place
 same_fault (fault.Ambiguous place) of = same_place place
+same_fault (fault.OptionGap place) of = same_place place
 same_fault (fault.Uncertain place behind) of = same_place place
 same_fault fault.TooLarge of = absurd of
 same_fault (fault.Write count) of = absurd of

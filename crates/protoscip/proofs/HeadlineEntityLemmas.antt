@@ -1,6 +1,6 @@
 -- The entities of linked files: what occurs names one, and a symbol's text is that of one.
 use Rattle.std.proofs.Common.{◌≡◌, ◌∙◌, ◌⊎◌, inl, inr, ℕ, zero, ◌+◌, ◌<◌, Some, List, [], ◌∷◌, ◌++◌, take, sym, ap}
-use Rattle.std.proofs.Common.{refl, subst, arith, ⊎_elim}
+use Rattle.std.proofs.Common.{refl, subst, arith, ⊎_elim, Bool, Option, None}
 use Rattle.std.specs.Prelude.{Contains}
 use Rattle.std.specs.List.{slice_get}
 use Rattle.std.specs.Str.{bytes_eq}
@@ -24,6 +24,9 @@ use Rattle.proto_visibility.specs.Sees.LeadsTo.{at_once}
 use Rattle.proto_visibility.specs.Sees.SeesBy.{import}
 use Rattle.proto_visibility.specs.Sees.IsReachable.{seen}
 use Rattle.basics.proofs.FirstLemmas.{contained}
+use Rattle.option_link.specs.declared.facts.OptionFacts.{OptionFacts}
+use Rattle.option_link.specs.Counted.{Counts}
+use Rattle.option_link.specs.Counted.Counts.{reachable}
 use Rattle.proto_visibility.specs.Knows.{IsEntityOf as IsNamed}
 use Rattle.proto_visibility.specs.Knows.IsEntityOf.{packaged as named_package, declared as named_declared}
 use Rattle.scip_symbol.specs.Package.{Package, IsPackage}
@@ -32,16 +35,20 @@ use Rattle.scip_symbol.specs.Entities.{Entity, OfFile, OfPackage, OfDeclaration,
 use Rattle.scip_symbol.specs.OneEntity.{IsWithoutClash, IsAmong}
 use Rattle.scip_model.specs.Chosen.{Chosen}
 use Rattle.scip_model.specs.Conditions.{HaveGoodPaths}
-use Rattle.scip_model.specs.Named.{HasDeclaration, NamesIn, text_of, package_at, declaration_in, home_of_file}
+use Rattle.scip_model.specs.Named.{HasDeclaration, IsNamedAs, NamesIn, text_of, package_at, declaration_in}
+use Rattle.scip_model.specs.Named.{home_of_file}
 use Rattle.scip_model.specs.Occurs.{Occurs}
 use Rattle.scip_model.specs.Occurs as rule
+use Rattle.scip_model.specs.Options.{OccursInOptions}
+use Rattle.scip_model.specs.Options.OccursInOptions.{of_option}
 use Rattle.scip_model.proofs.NamedApartLemmas.{AreApart, AreCounted, both, in-first, in-second, one-text, one-declared}
 use Rattle.scip_model.proofs.NamedEntityLemmas.{package-is, declaration-is}
 use Rattle.scip_model.proofs.ConditionLinkedLemmas.{source-counts}
 use Rattle.scip_model.proofs.PackageLemmas.{by_path, file_good}
 use Rattle.scip_records.specs.declared.records.Occurrence.{Occurrence}
 use Rattle.protoscip.specs.NameLaws.{LawsOfNames}
-use Rattle.protoscip.specs.Headline.{IsEntityOf, of_file, of_package, of_declaration, entity_of, package_of_entity}
+use Rattle.protoscip.specs.Headline.{CountsWith, IsEntityOf, of_file, of_package, of_declaration, package_of_entity}
+use Rattle.protoscip.specs.Headline.{entity_of, entity_in_option, OccursAs, by_rule, in_option}
 use Rattle.protoscip.proofs.HeadlineDottedLemmas.{same_front}
 
 -- ---- texts in a list
@@ -59,19 +66,45 @@ has_text (first ∷ texts) text = elim (cases_Bool (bytes_eq first text)) [
       (has_text texts text)
 ]
 
+-- ---- files that count
+
+-- what some source sees counts in any case
+counts_seen : (asked : Option (List OptionFacts)) (files : List File) (number : ℕ) → IsReachable files number
+    → CountsWith asked files number
+counts_seen None files number is = is
+counts_seen (Some known) files number is = reachable is
+
+counts_by : (asked : Option (List OptionFacts)) (files : List File) (number : ℕ) → CountsWith asked files number
+    → Counts files number
+counts_by None files number is = reachable is
+counts_by (Some known) files number counts = counts
+
+counts_in : {asked : Option (List OptionFacts)} {known : List OptionFacts} (files : List File) (number : ℕ)
+    → asked ≡ Some known → Counts files number → CountsWith asked files number
+counts_in files number same counts =
+    let With : Option (List OptionFacts) → Type 0 = λ a. CountsWith a files number in
+    subst With (sym same) counts
+
 -- ---- what occurs
 
-module _ (files : List File) (ids : Packages) (origins : HaveOrigins files) (laws : LawsOfNames) where
+module _ (asked : Option (List OptionFacts)) (files : List File) (ids : Packages) (origins : HaveOrigins files)
+    (laws : LawsOfNames) where
+  abbrev Is : Entity → Type 0
+  Is = IsEntityOf asked files ids
+
+  abbrev CountsHere : ℕ → Type 0
+  CountsHere = CountsWith asked files
+
   -- the file that an import of a source names
   imported_is : (source : ℕ) → IsSource files source → (facts : Facts) (imported : Imported)
       → HasFacts files source facts → Contains facts.imports imported → HasPath files imported.path
-      → IsEntityOf files ids (OfFile imported.path)
+      → Is (OfFile imported.path)
   imported_is source is facts imported has listed there = named there
     where
       counts : (number : ℕ) (file : File) → slice_get files number ≡ Some file → file.path ≡ imported.path
-          → IsPresent files number → IsReachable files number
+          → IsPresent files number → CountsHere number
       counts number file at path present =
-          seen is (import (record {
+          counts_seen asked files number (seen is (import (record {
             facts = facts;
             import = imported;
             file = file;
@@ -80,82 +113,101 @@ module _ (files : List File) (ids : Packages) (origins : HaveOrigins files) (law
             kind = refl;
             numbered = at;
             path = path;
-          }) at_once) present
+          }) at_once) present)
 
-      named : HasPath files imported.path → IsEntityOf files ids (OfFile imported.path)
+      named : HasPath files imported.path → Is (OfFile imported.path)
       named there =
           let at = there.1 in
-          let Is : List ℕ → Type 0 = λ path. IsEntityOf files ids (OfFile path) in
-          subst Is at.2 (of_file (counts there.0 at.0 at.1 at.2 there.2) at.1)
+          let IsFile : List ℕ → Type 0 = λ path. Is (OfFile path) in
+          subst IsFile at.2 (of_file there.0 (counts there.0 at.0 at.1 at.2 there.2) at.1)
 
   -- a package of the file that declares what a use names
-  named_package_is : {owner : ℕ} {facts : Facts} → IsReachable files owner → HasFacts files owner facts
+  named_package_is : {owner : ℕ} {facts : Facts} → CountsHere owner → HasFacts files owner facts
       → (whole : List ℕ) (number : ℕ) (part : Part) → 0 < number
       → IsNamed owner facts (prefix_of whole number) number part → (count : ℕ) → part ≡ link.Package count
-      → IsEntityOf files ids (OfPackage (take count (components_of whole)))
+      → Is (OfPackage (take count (components_of whole)))
   named_package_is {owner} {facts} counts has whole number _ one (named_package prefix) count same =
-      let Of : List (List ℕ) → Type 0 = λ parts. IsEntityOf files ids (OfPackage parts) in
-      let Is : ℕ → Type 0 = λ n. IsEntityOf files ids (OfPackage (take n (components_of whole))) in
+      let Of : List (List ℕ) → Type 0 = λ parts. Is (OfPackage parts) in
+      let IsFront : ℕ → Type 0 = λ n. Is (OfPackage (take n (components_of whole))) in
       let few = prefix.1 in
       let within = prefix.2 in
       let front = same_front whole number prefix.0 facts.package_name one few (omega (arith, few, within))
       (laws.simple facts (origins owner facts has)) (sym prefix.3) in
-      subst Is (count_of number count same) (subst Of (sym front) (of_package counts has few within))
+      subst IsFront (count_of number count same) (subst Of (sym front) (of_package owner counts has few within))
     where
       count_of : (a b : ℕ) → link.Package a ≡ link.Package b → a ≡ b
       count_of a b e = cc
   named_package_is counts has whole number _ one (named_declared at full) count same = absurd (cc)
 
   named_file_counts : {owner : ℕ} {facts : Facts} {name : List ℕ} {number : ℕ} (part : Part)
-      → IsReachable files owner → IsNamed owner facts name number part → (file index : ℕ)
-      → part ≡ link.Declared file index → IsReachable files file
+      → CountsHere owner → IsNamed owner facts name number part → (file index : ℕ)
+      → part ≡ link.Declared file index → CountsHere file
   named_file_counts _ counts (named_package prefix) file index same = absurd (cc)
   named_file_counts {owner} _ counts (named_declared {index = its} at full) file index same =
-      subst (IsReachable files) (file_of owner its file index same) counts
+      subst CountsHere (file_of owner its file index same) counts
     where
       file_of : (a b c d : ℕ) → link.Declared a b ≡ link.Declared c d → a ≡ c
       file_of a b c d e = cc
 
+  -- what a name names that is declared in a file that counts
+  part_is : {owner : ℕ} {facts : Facts} → CountsHere owner → HasFacts files owner facts → (whole : List ℕ) (number : ℕ)
+      (part : Part) → 0 < number → IsNamed owner facts (prefix_of whole number) number part → (entity : Entity)
+      → IsNamedAs files ids whole part entity → Is entity
+  part_is counts has whole number (link.Package count) some named entity is =
+      subst Is (sym is) (named_package_is counts has whole number (link.Package count) some named count refl)
+  part_is counts has whole number (link.Declared file index) some named entity is =
+      subst Is (sym is.is)
+      (of_declaration file (named_file_counts (link.Declared file index) counts named file index refl) is.has)
+
   component_is : (source : ℕ) → IsSource files source → (component : Component) (part : Part) (entity : Entity)
-      → NamesIn files ids source component part entity → IsEntityOf files ids entity
-  component_is source is component (link.Package count) entity names =
+      → NamesIn files ids source component part entity → Is entity
+  component_is source is component part entity names =
       let target = names.is_target in
       let owned = target.names.owned in
-      let named = target.named names.index (link.Package count) names.part_is in
-      subst (IsEntityOf files ids) (sym names.entity_is)
-      (named_package_is (seen is owned.gives.sees owned.present) target.known names.target.name _ (link.Package count)
-      (omega arith) named count refl)
-  component_is source is component (link.Declared file index) entity names =
-      let target = names.is_target in
-      let owned = target.names.owned in
-      let named = target.named names.index (link.Declared file index) names.part_is in
-      let counts = named_file_counts (link.Declared file index) (seen is owned.gives.sees owned.present) named file
-      index refl in
-      subst (IsEntityOf files ids) (sym names.entity_is.is) (of_declaration counts names.entity_is.has)
+      part_is (counts_seen asked files target.owner (seen is owned.gives.sees owned.present)) target.known
+      names.target.name (target.skipped + names.index + 1) part (omega arith)
+      (target.named names.index part names.part_is) entity names.entity_is
 
   module _ (chosen : Chosen) (encoding : Encoding) (source : ℕ) (text : List ℕ) where
     -- what an occurrence of a source names is an entity of the files
-    pub entity_is : IsSource files source → (o : Occurrence) (occurs : Occurs files chosen ids encoding source text o)
-        → IsEntityOf files ids (entity_of occurs)
-    entity_is is _ (rule.of_file numbered) = of_file (source-counts files source is) numbered
+    entity_is : IsSource files source → (o : Occurrence) (occurs : Occurs files chosen ids encoding source text o)
+        → Is (entity_of occurs)
+    entity_is is _ (rule.of_file numbered) =
+        of_file source (counts_seen asked files source (source-counts files source is)) numbered
     entity_is is _ (rule.of_import {facts = facts} {imported = imported} has listed there) =
         imported_is source is facts imported has listed there
     entity_is is _ (rule.of_package {facts = facts} index {component = component} has stands) =
-        of_package (source-counts files source is) has (omega arith)
+        of_package source (counts_seen asked files source (source-counts files source is)) has (omega arith)
         (omega (arith, slice_get_within facts.package_name index component stands))
-    entity_is is _ (rule.of_declaration index has kept) = of_declaration (source-counts files source is) has
+    entity_is is _ (rule.of_declaration index has kept) =
+        of_declaration source (counts_seen asked files source (source-counts files source is)) has
     entity_is is _ (rule.of_component {component = component} {part = part} {entity = entity} names shown) =
         component_is source is component part entity names
 
+    -- so is what a component of a name in an option names
+    option_entity_is : {known : List OptionFacts} → asked ≡ Some known → (o : Occurrence)
+        (occurs : OccursInOptions files known chosen ids encoding source text o) → Is (entity_in_option occurs)
+    option_entity_is same _ (of_option {part = part} {entity = entity} names shown) =
+        let target = names.is_target in
+        let parts = target.parts in
+        part_is (counts_in files target.at.file same names.counts) parts.known parts.declaration.full_name
+        (parts.skipped + names.index + 1) part (omega arith) (parts.named names.index part names.part_is) entity
+        names.entity_is
+
+    pub entity_is_as : IsSource files source → (o : Occurrence) (entity : Entity) (is_definition : Bool)
+        → OccursAs asked files chosen ids encoding source text o entity is_definition → Is entity
+    entity_is_as is o _ _ (by_rule occurs) = entity_is is o occurs
+    entity_is_as is o _ _ (in_option same occurs) = option_entity_is same o occurs
+
 -- ---- entities and symbols
 
-module _ (files : List File) (ids : Packages) (apart : AreApart files ids) (good : HaveGoodPaths files)
-    (are : ArePackages ids) (laws : LawsOfNames) where
-  is_entity : (entity : Entity) → IsEntityOf files ids entity → IsEntity entity
-  is_entity _ (of_file {number = number} {file = file} counts at) = good number file at
-  is_entity _ (of_package {number = number} {count = count} {facts = facts} counts has some few) =
+module _ (asked : Option (List OptionFacts)) (files : List File) (ids : Packages) (apart : AreApart files ids)
+    (good : HaveGoodPaths files) (are : ArePackages ids) (laws : LawsOfNames) where
+  is_entity : (entity : Entity) → IsEntityOf asked files ids entity → IsEntity entity
+  is_entity _ (of_file number {file = file} counts at) = good number file at
+  is_entity _ (of_package number {count = count} {facts = facts} counts has some few) =
       package-is facts count (laws.named facts (apart.origins number facts has)) some few
-  is_entity _ (of_declaration {number = number} {index = index} {facts = facts} {declared = declared} counts has) =
+  is_entity _ (of_declaration number {index = index} {facts = facts} {declared = declared} counts has) =
       let origin = apart.origins number facts has.has_facts in
       declaration-is (home_of_file files ids number) facts declared (laws.named facts origin) (laws.paths facts origin)
       (contained facts.declarations index declared has.numbered)
@@ -173,15 +225,15 @@ module _ (files : List File) (ids : Packages) (apart : AreApart files ids) (good
   IsElse : Entity → Type 0
   IsElse entity = (declarations : List Entity) → IsAmong declarations entity
 
-  kind_of : (entity : Entity) → IsEntityOf files ids entity → IsDeclared entity ⊎ IsElse entity
+  kind_of : (entity : Entity) → IsEntityOf asked files ids entity → IsDeclared entity ⊎ IsElse entity
   unfolding IsElse
-  kind_of _ (of_file counts at) = inr (λ declarations. tt)
-  kind_of _ (of_package counts has some few) = inr (λ declarations. tt)
-  kind_of _ (of_declaration {number = number} {index = index} {facts = facts} {declared = declared} counts has) =
+  kind_of _ (of_file number counts at) = inr (λ declarations. tt)
+  kind_of _ (of_package number counts has some few) = inr (λ declarations. tt)
+  kind_of _ (of_declaration number {index = index} {facts = facts} {declared = declared} counts has) =
       inl (record {
         number = number;
         facts = facts;
-        counted = record { is_reachable = counts; known = has.has_facts };
+        counted = record { counts = counts_by asked files number counts; known = has.has_facts };
         declared = declared;
         listed = contained facts.declarations index declared has.numbered;
         is = refl;
@@ -233,123 +285,159 @@ module _ (files : List File) (ids : Packages) (apart : AreApart files ids) (good
         one_of b b entity other its also (a (both_of b b)) (first_in b b) same
     one_by entity other its also (inr a) (inr b) same = one_else entity other its also a b same
 
-    one_text_one : (entity other : Entity) → IsEntityOf files ids entity → IsEntityOf files ids other
+    one_text_one : (entity other : Entity) → IsEntityOf asked files ids entity → IsEntityOf asked files ids other
         → text_of id entity ≡ text_of its_id other → entity ≡ other
     one_text_one entity other its also same =
         one_by entity other (is_entity entity its) (is_entity other also) (kind_of entity its) (kind_of other also) same
 
   -- ---- a declaration's entity is its own
 
-  pub own_entity : (number index other its : ℕ) (facts more : Facts) (a b : Declaration) → IsReachable files number
-      → IsReachable files other
+  pub own_entity : (number index other its : ℕ) (facts more : Facts) (a b : Declaration)
+      → CountsWith asked files number → CountsWith asked files other
       → HasDeclaration files number index facts a → HasDeclaration files other its more b
       → declaration_in (home_of_file files ids number) facts a ≡ declaration_in (home_of_file files ids other) more b
       → (number ≡ other) × (index ≡ its)
   own_entity number index other its facts more a b counts also has there same =
-      one-declared files ids apart number other facts more (record { is_reachable = counts; known = has.has_facts })
-      (record { is_reachable = also; known = there.has_facts }) ids.run ids.run are.run are.run index its a b
+      one-declared files ids apart number other facts more
+      (record { counts = counts_by asked files number counts; known = has.has_facts })
+      (record { counts = counts_by asked files other also; known = there.has_facts }) ids.run ids.run are.run are.run
+      index its a b
       has.numbered there.numbered (ap (text_of ids.run) same)
 
   -- ---- an entity has one package
 
   -- the package of an entity is one of the packages
-  home_good : (entity : Entity) (is : IsEntityOf files ids entity)
-      → IsPackage (package_of_entity files ids is)
-  home_good _ (of_file {number = number} counts at) = file_good files ids number are
-  home_good _ (of_package counts has some few) = are.run
-  home_good _ (of_declaration {number = number} counts has) = file_good files ids number are
+  home_good : (entity : Entity) (is : IsEntityOf asked files ids entity)
+      → IsPackage (package_of_entity asked files ids is)
+  home_good _ (of_file number counts at) = file_good files ids number are
+  home_good _ (of_package number counts has some few) = are.run
+  home_good _ (of_declaration number counts has) = file_good files ids number are
 
   path_of : (a b : List ℕ) → OfFile a ≡ OfFile b → a ≡ b
   path_of a b e = cc
 
   -- of a file it goes by the path
-  file_home : (path : List ℕ) (entity : Entity) (is : IsEntityOf files ids entity) → entity ≡ OfFile path
-      → package_of_entity files ids is ≡ package_of_path ids path
-  file_home path _ (of_file {number = number} {file = file} counts at) same =
+  file_home : (path : List ℕ) (entity : Entity) (is : IsEntityOf asked files ids entity) → entity ≡ OfFile path
+      → package_of_entity asked files ids is ≡ package_of_path ids path
+  file_home path _ (of_file number {file = file} counts at) same =
       by_path files ids number file at ∙ ap (package_of_path ids) (path_of file.path path same)
-  file_home path _ (of_package counts has some few) same = absurd cc
-  file_home path _ (of_declaration counts has) same = absurd cc
+  file_home path _ (of_package number counts has some few) same = absurd cc
+  file_home path _ (of_declaration number counts has) same = absurd cc
 
   -- of a package it is the run's
-  package_home : (components : List (List ℕ)) (entity : Entity) (is : IsEntityOf files ids entity)
-      → entity ≡ OfPackage components → package_of_entity files ids is ≡ ids.run
-  package_home components _ (of_file counts at) same = absurd cc
-  package_home components _ (of_package counts has some few) same = refl
-  package_home components _ (of_declaration counts has) same = absurd cc
+  package_home : (components : List (List ℕ)) (entity : Entity) (is : IsEntityOf asked files ids entity)
+      → entity ≡ OfPackage components → package_of_entity asked files ids is ≡ ids.run
+  package_home components _ (of_file number counts at) same = absurd cc
+  package_home components _ (of_package number counts has some few) same = refl
+  package_home components _ (of_declaration number counts has) same = absurd cc
 
   -- of a declaration it is that of the file
-  declaration_home : (number index : ℕ) (facts : Facts) (declared : Declaration) → IsReachable files number
-      → HasDeclaration files number index facts declared → (entity : Entity) (is : IsEntityOf files ids entity)
+  declaration_home : (number index : ℕ) (facts : Facts) (declared : Declaration)
+      → CountsWith asked files number
+      → HasDeclaration files number index facts declared → (entity : Entity) (is : IsEntityOf asked files ids entity)
       → entity ≡ declaration_in (home_of_file files ids number) facts declared
-      → package_of_entity files ids is ≡ package_of_file files ids number
-  declaration_home number index facts declared counts has _ (of_file also at) same = absurd cc
-  declaration_home number index facts declared counts has _ (of_package also its some few) same = absurd cc
+      → package_of_entity asked files ids is ≡ package_of_file files ids number
+  declaration_home number index facts declared counts has _ (of_file other also at) same = absurd cc
+  declaration_home number index facts declared counts has _ (of_package other also its some few) same = absurd cc
   declaration_home number index facts declared counts has _
-      (of_declaration {number = other} {index = its} {facts = more} {declared = declaration} also there) same =
+      (of_declaration other {index = its} {facts = more} {declared = declaration} also there) same =
       ap (package_of_file files ids)
       (own_entity other its number index more facts declaration declared also counts there has same).0
 
-  pub one_home : (entity other : Entity) (is : IsEntityOf files ids entity) (its : IsEntityOf files ids other)
-      → entity ≡ other → package_of_entity files ids is ≡ package_of_entity files ids its
-  one_home entity _ is (of_file {number = number} {file = file} counts at) same =
+  pub one_home : (entity other : Entity) (is : IsEntityOf asked files ids entity)
+      (its : IsEntityOf asked files ids other)
+      → entity ≡ other → package_of_entity asked files ids is ≡ package_of_entity asked files ids its
+  one_home entity _ is (of_file number {file = file} counts at) same =
       file_home file.path entity is same ∙ sym (by_path files ids number file at)
-  one_home entity _ is (of_package {count = count} {facts = facts} counts has some few) same =
+  one_home entity _ is (of_package number {count = count} {facts = facts} counts has some few) same =
       package_home (component_names (take count facts.package_name)) entity is same
   one_home entity _ is
-      (of_declaration {number = number} {index = index} {facts = facts} {declared = declared} counts has) same =
+      (of_declaration number {index = index} {facts = facts} {declared = declared} counts has) same =
       declaration_home number index facts declared counts has entity is same
 
   -- entities of the files with one symbol are one
-  pub one_entity : (entity other : Entity) (is : IsEntityOf files ids entity)
-      (its : IsEntityOf files ids other)
-      → text_of (package_of_entity files ids is) entity ≡ text_of (package_of_entity files ids its) other
+  pub one_entity : (entity other : Entity) (is : IsEntityOf asked files ids entity)
+      (its : IsEntityOf asked files ids other)
+      → text_of (package_of_entity asked files ids is) entity ≡ text_of (package_of_entity asked files ids its) other
       → entity ≡ other
   one_entity entity other is its same =
-      one_text_one (package_of_entity files ids is) (package_of_entity files ids its) (home_good entity is)
+      one_text_one (package_of_entity asked files ids is) (package_of_entity asked files ids its) (home_good entity is)
       (home_good other its) entity other is its same
 
   -- and have one symbol
-  pub one_symbol : (entity other : Entity) (is : IsEntityOf files ids entity) (its : IsEntityOf files ids other)
+  pub one_symbol : (entity other : Entity) (is : IsEntityOf asked files ids entity)
+      (its : IsEntityOf asked files ids other)
       → entity ≡ other
-      → text_of (package_of_entity files ids is) entity ≡ text_of (package_of_entity files ids its) other
+      → text_of (package_of_entity asked files ids is) entity ≡ text_of (package_of_entity asked files ids its) other
   one_symbol entity other is its same =
       ap (λ (id : Package). text_of id entity) (one_home entity other is its same)
-      ∙ ap (text_of (package_of_entity files ids its)) same
+      ∙ ap (text_of (package_of_entity asked files ids its)) same
 
   -- ---- the symbol of an occurrence
 
-  module _ (source : ℕ) (is_source : IsSource files source) where
-    part_home : (component : Component) (part : Part) (entity : Entity) → NamesIn files ids source component part entity
-        → (is : IsEntityOf files ids entity) → package_of_part files ids part ≡ package_of_entity files ids is
-    part_home component (link.Package count) entity names is =
-        sym (package_home (take count (components_of names.target.name)) entity is names.entity_is)
-    part_home component (link.Declared number index) entity names is =
+  -- the package of what a name names that is declared in a file that counts
+  part_home : {owner : ℕ} {facts : Facts} → CountsWith asked files owner → (whole front : List ℕ) (number : ℕ)
+      (part : Part) → IsNamed owner facts front number part → (entity : Entity)
+      → IsNamedAs files ids whole part entity → (is : IsEntityOf asked files ids entity)
+      → package_of_part files ids part ≡ package_of_entity asked files ids is
+  part_home counts whole front number (link.Package count) named entity its is =
+      sym (package_home (take count (components_of whole)) entity is its)
+  part_home counts whole front number (link.Declared file index) named entity its is =
+      let counts_too = named_file_counts asked files ids apart.origins laws (link.Declared file index) counts named file
+      index refl in
+      sym (declaration_home file index its.facts its.declaration counts_too its.has entity is its.is)
+
+  module _ (source : ℕ) where
+    component_home : IsSource files source → (component : Component) (part : Part) (entity : Entity)
+        → NamesIn files ids source component part entity → (is : IsEntityOf asked files ids entity)
+        → package_of_part files ids part ≡ package_of_entity asked files ids is
+    component_home is_source component part entity names is =
         let target = names.is_target in
         let owned = target.names.owned in
-        let named = target.named names.index (link.Declared number index) names.part_is in
-        let counts = named_file_counts files ids apart.origins laws (link.Declared number index)
-        (seen is_source owned.gives.sees owned.present) named number index refl in
-        let of = names.entity_is in
-        sym (declaration_home number index of.facts of.declaration counts of.has entity is of.is)
+        part_home (counts_seen asked files target.owner (seen is_source owned.gives.sees owned.present))
+        names.target.name _ _ part (target.named names.index part names.part_is) entity names.entity_is is
 
     -- it is that of the entity, in its package
-    pub symbol_is : (chosen : Chosen) (encoding : Encoding) (text : List ℕ) (o : Occurrence)
-        (occurs : Occurs files chosen ids encoding source text o) (is : IsEntityOf files ids (entity_of occurs))
-        → o.symbol ≡ text_of (package_of_entity files ids is) (entity_of occurs)
-    symbol_is chosen encoding text _ (rule.of_file {file = file} numbered) is =
+    symbol_is : IsSource files source → (chosen : Chosen) (encoding : Encoding) (text : List ℕ) (o : Occurrence)
+        (occurs : Occurs files chosen ids encoding source text o) (is : IsEntityOf asked files ids (entity_of occurs))
+        → o.symbol ≡ text_of (package_of_entity asked files ids is) (entity_of occurs)
+    symbol_is is_source chosen encoding text _ (rule.of_file {file = file} numbered) is =
         ap (λ (id : Package). text_of id (OfFile file.path))
         (by_path files ids source file numbered ∙ sym (file_home file.path (OfFile file.path) is refl))
-    symbol_is chosen encoding text _ (rule.of_import {imported = imported} has listed there) is =
+    symbol_is is_source chosen encoding text _ (rule.of_import {imported = imported} has listed there) is =
         ap (λ (id : Package). text_of id (OfFile imported.path))
         (sym (file_home imported.path (OfFile imported.path) is refl))
-    symbol_is chosen encoding text _ (rule.of_package {facts = facts} index has stands) is =
+    symbol_is is_source chosen encoding text _ (rule.of_package {facts = facts} index has stands) is =
         let entity = package_at facts (index + 1) in
         ap (λ (id : Package). text_of id entity)
         (sym (package_home (component_names (take (index + 1) facts.package_name)) entity is refl))
-    symbol_is chosen encoding text _ (rule.of_declaration {facts = facts} index {declared = declared} has kept) is =
+    symbol_is is_source chosen encoding text _
+        (rule.of_declaration {facts = facts} index {declared = declared} has kept) is =
         let entity = declaration_in (home_of_file files ids source) facts declared in
         ap (λ (id : Package). text_of id entity)
-        (sym (declaration_home source index facts declared (source-counts files source is_source) has entity is refl))
-    symbol_is chosen encoding text _ (rule.of_component {component = component} {part = part} {entity = entity} names
-        shown) is =
-        ap (λ (id : Package). text_of id entity) (part_home component part entity names is)
+        (sym (declaration_home source index facts declared
+        (counts_seen asked files source (source-counts files source is_source)) has entity is refl))
+    symbol_is is_source chosen encoding text _
+        (rule.of_component {component = component} {part = part} {entity = entity} names shown) is =
+        ap (λ (id : Package). text_of id entity) (component_home is_source component part entity names is)
+
+    -- so is that of a component of a name in an option
+    option_symbol_is : {known : List OptionFacts} → asked ≡ Some known → (chosen : Chosen) (encoding : Encoding)
+        (text : List ℕ) (o : Occurrence) (occurs : OccursInOptions files known chosen ids encoding source text o)
+        (is : IsEntityOf asked files ids (entity_in_option occurs))
+        → o.symbol ≡ text_of (package_of_entity asked files ids is) (entity_in_option occurs)
+    option_symbol_is same chosen encoding text _ (of_option {part = part} {entity = entity} names shown) is =
+        let target = names.is_target in
+        let parts = target.parts in
+        ap (λ (id : Package). text_of id entity)
+        (part_home (counts_in files target.at.file same names.counts) parts.declaration.full_name _ _ part
+        (parts.named names.index part names.part_is) entity names.entity_is is)
+
+    pub symbol_is_as : IsSource files source → (chosen : Chosen) (encoding : Encoding) (text : List ℕ) (o : Occurrence)
+        (entity : Entity) (is_definition : Bool)
+        → OccursAs asked files chosen ids encoding source text o entity is_definition
+        → (is : IsEntityOf asked files ids entity) → o.symbol ≡ text_of (package_of_entity asked files ids is) entity
+    symbol_is_as is_source chosen encoding text o _ _ (by_rule occurs) is =
+        symbol_is is_source chosen encoding text o occurs is
+    symbol_is_as is_source chosen encoding text o _ _ (in_option same occurs) is =
+        option_symbol_is same chosen encoding text o occurs is

@@ -1,10 +1,10 @@
 -- The files that a fault of a build names are files of its tree.
-use Rattle.std.proofs.Common.{◌≡◌, ◌∙◌, inl, inr, ℕ, ◌<◌, false, List, length, Some, sym, subst}
+use Rattle.std.proofs.Common.{◌≡◌, ◌∙◌, inl, inr, ℕ, ◌<◌, Bool, false, List, length, Some, sym, subst}
 use Rattle.std.specs.List.{Contains, slice_get}
 use Rattle.std.proofs.lemmas.List.Elements.{All-contains_itself, All-weaker}
 use Rattle.std.proofs.lemmas.Option.{slice_get_within}
 use Rattle.std.proofs.lemmas.List.{length-map}
-use Rattle.proto_decl.specs.declared.form.FactForm.{FactForm}
+use Rattle.scip_build.specs.declared.read_form.ReadForm.{ReadForm}
 use Rattle.proto_parse.specs.dialect.Dialect.{Dialect}
 use Rattle.proto_decl.specs.Values.{Seen}
 use Rattle.proto_visibility.specs.declared.files.FilePlace.{FilePlace}
@@ -13,7 +13,7 @@ use Rattle.proto_visibility.specs.declared.omissions.FileOmission.TheVariants as
 use Rattle.proto_visibility.specs.declared.clash.Duplicates.{Duplicates}
 use Rattle.proto_visibility.specs.declared.clash.Duplicates.TheVariants as names
 use Rattle.proto_visibility.specs.Clashes.{Clash}
-use Rattle.proto_visibility.specs.Files.{File, IsPresent}
+use Rattle.proto_visibility.specs.Files.{File, IsPresent, IsSource}
 use Rattle.proto_visibility.specs.Sees.IsReachable.{seen}
 use Rattle.proto_visibility.proofs.ItemAllLemmas.{file_within}
 use Rattle.proto_visibility.specs.Linked.MayRefuse.{clashing, absent_import}
@@ -25,7 +25,8 @@ use Rattle.source_tree.specs.Files.{TreeFile}
 use Rattle.scip_build.specs.FactForms.{form_of}
 use Rattle.scip_build.specs.Builds.{IsBuilt, IsBuildFault}
 use Rattle.scip_build.specs.Kept.{IsLeftFor, IsTold}
-use Rattle.scip_build.specs.Kept.IsTold.{of_file, of_import as told_import, of_use, of_ambiguous, of_uncertain}
+use Rattle.scip_build.specs.Kept.IsTold.{of_file, of_import as told_import, of_use, of_ambiguous, of_uncertain, of_gap}
+use Rattle.scip_build.specs.Documents.{asked_in, asks_in, IsUnresolvedFirst}
 use Rattle.scip_build.specs.Files.{ReadFile}
 use Rattle.scip_build.specs.Keeping.{linked_of}
 use Rattle.scip_build.specs.Linking.{linked_file, linked_files, HasFault}
@@ -66,7 +67,7 @@ clash_within names.Keep files first second own =
       subst Within clash.second_is (file_within clash.later clash.exclude.second_is),
     )
 
-pub in_tree : (allows : Seen → Choice → Type 0) (mode : Faulty) (dialect : Dialect) (form : FactForm)
+pub in_tree : (allows : Seen → Choice → Type 0) (mode : Faulty) (dialect : Dialect) (form : ReadForm)
     (tree : List TreeFile) (parsed : List ReadFile) (number : ℕ)
     → AreParsedFiles mode dialect form allows tree parsed → number < length (linked_files parsed)
     → HasFile tree number
@@ -79,6 +80,12 @@ module _ (allows : Seen → Choice → Type 0) (settings : Settings) (tree : Lis
       → AreParsedFiles Refuse settings.dialect (form_of settings) allows tree parsed
       → number < length (linked_files parsed) → HasFile tree number
   in_parsed = in_tree allows Refuse settings.dialect (form_of settings) tree
+
+  first_source : (parsed : List ReadFile) (place : FilePlace)
+      → IsUnresolvedFirst (asked_in settings parsed) parsed (linked_files parsed) place
+      → IsSource (linked_files parsed) place.file
+  first_source parsed place (inl first) = first.0.source
+  first_source parsed place (inr gap) = gap.least.holds.source
 
   pub files_of_build : (workers : ℕ) (e : BuildFault) → IsBuildFault allows settings tree workers e
       → HasFilesOf tree (fault_of_build e)
@@ -101,7 +108,7 @@ module _ (allows : Seen → Choice → Type 0) (settings : Settings) (tree : Lis
       in_parsed parsed place.file are
       (of_import (linked_files parsed) place.file missing.import missing.needed)
   files_of_build workers (build.Unresolved place) (refuse, is) =
-      let source = is.2.1.source in
+      let source = first_source is.0 place is.2.1 in
       in_parsed is.0 place.file is.1 (slice_get_within (linked_files is.0) place.file source.file source.numbered)
   files_of_build workers (build.Ambiguous place) (refuse, is) =
       let source = is.2.1.source in
@@ -109,9 +116,10 @@ module _ (allows : Seen → Choice → Type 0) (settings : Settings) (tree : Lis
 
 -- ---- the files of what is told
 
-module _ (allows : Seen → Choice → Type 0) (faulty : Faulty) (dialect : Dialect) (form : FactForm)
+module _ (allows : Seen → Choice → Type 0) (faulty : Faulty) (dialect : Dialect) (form : ReadForm)
     (tree : List TreeFile) (all : List ReadFile) (read : AreParsedFiles faulty dialect form allows tree all)
-    (duplicates : Duplicates) (omissions : Omissions) (are : AreOmissions duplicates (linked_files all) omissions) where
+    (duplicates : Duplicates) (omissions : Omissions) (are : AreOmissions duplicates (linked_files all) omissions)
+    (asks : Bool) where
   within : (number : ℕ) → number < length (linked_files all) → HasFile tree number
   within number = in_tree allows faulty dialect form tree all number read
 
@@ -154,7 +162,7 @@ module _ (allows : Seen → Choice → Type 0) (faulty : Faulty) (dialect : Dial
       record { file = is.file; numbered = is.numbered; present = is.present }
   needed_at number import (of_included (seen is sees present) has listed public) = present
 
-  file_of_told : (told : Omission) → IsTold all omissions told → HasFilesOf tree (fault_of_omission told)
+  file_of_told : (told : Omission) → IsTold asks all omissions told → HasFilesOf tree (fault_of_omission told)
   file_of_told told (of_file n o at left) = of_left n o told (are.each n (Some o) at) left
   file_of_told _ (told_import p missing) =
       let at = needed_at p.file missing.import missing.needed in kept_within p.file at.file at.numbered at.present
@@ -166,9 +174,11 @@ module _ (allows : Seen → Choice → Type 0) (faulty : Faulty) (dialect : Dial
       let inside : n < length (linked_files all) =
       subst (λ (size : ℕ). n < size) are.one_each (slice_get_within omissions n (Some o) out) in
       (kept_within u.place.file source.file source.numbered source.present, within n inside)
+  file_of_told _ (of_gap p is) =
+      let source = is.source in kept_within p.file source.file source.numbered source.present
 
   pub files_of_told : (told : List Omission)
-      → ((omission : Omission) → Contains told omission → IsTold all omissions omission)
+      → ((omission : Omission) → Contains told omission → IsTold asks all omissions omission)
       → HaveFilesOf tree told
   files_of_told told is =
       All-weaker (Contains told) (λ omission. HasFilesOf tree (fault_of_omission omission))
@@ -180,4 +190,4 @@ pub files_of_built : (allows : Seen → Choice → Type 0) (settings : Settings)
 files_of_built allows settings tree built is =
     let kept = is.of_files.kept in
     files_of_told allows settings.faulty settings.dialect (form_of settings) tree is.all is.read settings.duplicates
-    kept.omissions kept.left_out built.told (λ fault there. (kept.told_is.exact fault).0 there)
+    kept.omissions kept.left_out (asks_in settings) built.told (λ fault there. (kept.told_is.exact fault).0 there)

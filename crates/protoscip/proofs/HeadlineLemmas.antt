@@ -1,7 +1,7 @@
 -- Queries over the index of a tree answer exactly the occurrences of the entity asked.
 use Rattle.std.proofs.Common.{◌≡◌, ◌∙◌, ◌↔◌, ℕ, List, Option, Result, Ok, Err, ap, sym, subst}
-use Rattle.std.proofs.Common.{refl}
-use Rattle.std.specs.Prelude.{true, false, ◌&&◌, Contains}
+use Rattle.std.proofs.Common.{refl, None, Some, inl, inr}
+use Rattle.std.specs.Prelude.{Bool, true, false, ◌&&◌, Contains}
 use Rattle.std.specs.declared.cmp.Ordering.{Ordering}
 use Rattle.std.specs.Result.{result_map_both}
 use Rattle.proto_lex.specs.declared.position.Encoding.{Encoding}
@@ -24,10 +24,13 @@ use Rattle.scip_model.specs.Packages.{Packages, ArePackages}
 use Rattle.scip_symbol.specs.Entities.{Entity}
 use Rattle.scip_model.specs.Chosen.{Chosen}
 use Rattle.scip_model.specs.Conditions.{HaveGoodPaths, IsResolved, AllResolve}
-use Rattle.scip_model.specs.Indexes.{HasDocument, IsAscendingListOf}
+use Rattle.scip_model.specs.Indexes.{HasDocumentWith, IsAscendingListOf}
 use Rattle.scip_model.specs.Named.{text_of}
 use Rattle.scip_model.specs.Occurs.{Occurs}
 use Rattle.scip_model.specs.Occurs as rule
+use Rattle.scip_model.specs.Options.{OccursInOptions, OccursWith}
+use Rattle.scip_model.specs.Options.OccursInOptions.{of_option}
+use Rattle.option_link.specs.declared.facts.OptionFacts.{OptionFacts}
 use Rattle.scip_model.proofs.NamedApartLemmas.{AreApart}
 use Rattle.scip_records.specs.declared.records.Document.{Document}
 use Rattle.scip_records.specs.declared.records.Index.{Index}
@@ -48,13 +51,15 @@ use Rattle.scip_build.specs.declared.faulty.Faulty.TheVariants.{Refuse, Skip}
 use Rattle.scip_build.specs.declared.settings.Settings.{Settings}
 use Rattle.scip_build.proofs.KeptTreeLemmas.{linked_is}
 use Rattle.scip_build.proofs.LinkingLemmas.{own_paths}
-use Rattle.protoscip.specs.Headline.{IsEntityOf, package_of_entity, entity_of, defines, IsSite, site_cmp, IsOf}
+use Rattle.protoscip.specs.Headline.{IsEntityOf, package_of_entity, entity_of, entity_in_option, defines, OccursAs}
+use Rattle.protoscip.specs.Headline.{by_rule, in_option, IsSite, site_cmp, IsOf}
 use Rattle.protoscip.specs.Headline.{IsSiteOf, IsDefinitionOf}
 use Rattle.protoscip.specs.Headline.{IsAt, Answers, AnswersNames, Headline, linked, ids}
+use Rattle.protoscip.specs.Headline.{asked as asked_of}
 use Rattle.protoscip.specs.NameLaws.{LawsOfNames}
-use Rattle.protoscip.proofs.HeadlineEntityLemmas.{entity_is, symbol_is, one_entity, one_symbol, own_entity}
+use Rattle.protoscip.proofs.HeadlineEntityLemmas.{entity_is_as, symbol_is_as, one_entity, own_entity, one_symbol}
 use Rattle.protoscip.proofs.HeadlineLinkedLemmas.{linked_origin, have_origins, good_paths}
-use Rattle.protoscip.proofs.UseLawLemmas.{component_names}
+use Rattle.protoscip.proofs.UseLawLemmas.{component_names, option_component_names}
 use Rattle.protoscip.proofs.HeadlineSiteLemmas.{IsAsked, asked, of_symbol, defining, just}
 
 -- no symbol of an entity is local
@@ -71,6 +76,33 @@ role_is (rule.of_import has listed there) = refl
 role_is (rule.of_package index has stands) = refl
 role_is (rule.of_declaration index has kept) = refl
 role_is (rule.of_component names shown) = refl
+
+option_role_is : {files : List File} {known : List OptionFacts} {chosen : Chosen} {ids : Packages} {encoding : Encoding}
+    {source : ℕ} {text : List ℕ} {o : Occurrence}
+    → OccursInOptions files known chosen ids encoding source text o → is_definition o ≡ false
+option_role_is (of_option names shown) = refl
+
+role_is_as : {asked : Option (List OptionFacts)} {files : List File} {chosen : Chosen} {ids : Packages}
+    {encoding : Encoding} {source : ℕ} {text : List ℕ} {o : Occurrence} {entity : Entity} {bit : Bool}
+    → OccursAs asked files chosen ids encoding source text o entity bit → is_definition o ≡ bit
+role_is_as (by_rule occurs) = role_is occurs
+role_is_as (in_option same occurs) = option_role_is occurs
+
+-- what occurs names something
+module _ (files : List File) (chosen : Chosen) (ids : Packages) (encoding : Encoding) (source : ℕ) (text : List ℕ)
+    (o : Occurrence) where
+  record NamesSome (asked : Option (List OptionFacts)) : Type 0 where
+    entity : Entity
+    bit : Bool
+    occurs : OccursAs asked files chosen ids encoding source text o entity bit
+
+  names_some : (asked : Option (List OptionFacts)) → OccursWith asked files chosen ids encoding source text o
+      → NamesSome asked
+  names_some None occurs = record { entity = entity_of occurs; bit = defines occurs; occurs = by_rule occurs }
+  names_some (Some known) (inl occurs) =
+      record { entity = entity_of occurs; bit = defines occurs; occurs = by_rule occurs }
+  names_some (Some known) (inr apart) =
+      record { entity = entity_in_option apart.occurs; bit = false; occurs = in_option refl apart.occurs }
 
 -- a list of one set is that of the same, told otherwise
 alike : {X : Type 0} {cmp : X → X → Ordering} {P Q : X → Type 0} {list : List X} → ((x : X) → P x ↔ Q x)
@@ -123,7 +155,7 @@ module _ {allows : Seen → Choice → Type 0} {settings : Settings} {tree : Lis
   -- ---- the entity of an occurrence
 
   source_of : (document : Document)
-      (has : HasDocument (linked built)
+      (has : HasDocumentWith (asked_of built) (linked built)
       (texts_of built.of_files.parsed) result.choices (ids built) settings.encoding document)
       → IsSource (linked built) has.source
   source_of document has = record {
@@ -134,24 +166,22 @@ module _ {allows : Seen → Choice → Type 0} {settings : Settings} {tree : Lis
   }
 
   of_files : (entity : Entity) (document : Document) (o : Occurrence) → IsOf built entity document o
-      → IsEntityOf (linked built) (ids built) entity
+      → IsEntityOf (asked_of built) (linked built) (ids built) entity
   of_files entity document o is =
-      subst (IsEntityOf (linked built) (ids built)) is.is
-      (entity_is (linked built) (ids built) apart.origins laws result.choices settings.encoding is.of_source.source
-      is.of_source.text (source_of is.plain is.of_source) o is.occurs)
+      entity_is_as (asked_of built) (linked built) (ids built) apart.origins laws result.choices settings.encoding
+      is.of_source.source is.of_source.text (source_of is.plain is.of_source) o entity is.defines_it is.occurs
 
   -- the text of an entity's symbol
-  symbol_in : (entity : Entity) → IsEntityOf (linked built) (ids built) entity → List ℕ
-  symbol_in entity of = text_of (package_of_entity (linked built) (ids built) of) entity
+  symbol_in : (entity : Entity) → IsEntityOf (asked_of built) (linked built) (ids built) entity → List ℕ
+  symbol_in entity of = text_of (package_of_entity (asked_of built) (linked built) (ids built) of) entity
 
-  symbol_of : (entity : Entity) (of : IsEntityOf (linked built) (ids built) entity) (document : Document)
-      (o : Occurrence) → IsOf built entity document o → o.symbol ≡ symbol_in entity of
+  symbol_of : (entity : Entity) (of : IsEntityOf (asked_of built) (linked built) (ids built) entity)
+      (document : Document) (o : Occurrence) → IsOf built entity document o → o.symbol ≡ symbol_in entity of
   unfolding symbol_in
   symbol_of entity of document o is =
-      let its = subst (IsEntityOf (linked built) (ids built)) (sym is.is) of in
-      symbol_is (linked built) (ids built) apart good are_packages laws is.of_source.source
-      (source_of is.plain is.of_source) result.choices settings.encoding is.of_source.text o is.occurs its
-      ∙ one_symbol (linked built) (ids built) apart good are_packages laws (entity_of is.occurs) entity its of is.is
+      symbol_is_as (asked_of built) (linked built) (ids built) apart good are_packages laws is.of_source.source
+      (source_of is.plain is.of_source) result.choices settings.encoding is.of_source.text o entity is.defines_it
+      is.occurs of
 
   -- a document of the index is one of a source, where the settings place it
   plain_of : (document : Document) → Contains result.index.documents document
@@ -165,15 +195,24 @@ module _ {allows : Seen → Choice → Type 0} {settings : Settings} {tree : Lis
   entity_at document o listed there =
       let of = plain_of document listed in
       let has = (built.of_files.index.documents.exact of.0).0 of.1 in
-      let occurs =
-      (has.is.occurrences.exact o).0 (subst (λ (d : Document). Contains d.occurrences o) (sym of.2) there) in
-      (entity_of occurs, record { plain = of.0; of_source = has; placed = sym of.2; occurs = occurs; is = refl })
+      let names = names_some (linked built) result.choices (ids built) settings.encoding has.source has.text o
+      (asked_of built)
+      ((has.is.occurrences.exact o).0 (subst (λ (d : Document). Contains d.occurrences o) (sym of.2) there)) in (
+        names.entity,
+        record {
+          plain = of.0;
+          of_source = has;
+          placed = sym of.2;
+          defines_it = names.bit;
+          occurs = names.occurs;
+        },
+      )
 
-  same_entity : (entity other : Entity) (is : IsEntityOf (linked built) (ids built) entity)
-      (its : IsEntityOf (linked built) (ids built) other) → symbol_in entity is ≡ symbol_in other its
+  same_entity : (entity other : Entity) (is : IsEntityOf (asked_of built) (linked built) (ids built) entity)
+      (its : IsEntityOf (asked_of built) (linked built) (ids built) other) → symbol_in entity is ≡ symbol_in other its
       → entity ≡ other
   unfolding symbol_in
-  same_entity = one_entity (linked built) (ids built) apart good are_packages laws
+  same_entity = one_entity (asked_of built) (linked built) (ids built) apart good are_packages laws
 
   -- occurrences with one symbol are of one entity
   by_symbol : (entity other : Entity) (document another : Document) (o also : Occurrence) → IsOf built entity document o
@@ -185,7 +224,7 @@ module _ {allows : Seen → Choice → Type 0} {settings : Settings} {tree : Lis
       (sym (symbol_of other other_is another also its) ∙ (sym same ∙ symbol_of entity own_is document o is))
 
   each : (site : Site) → IsSite result.index site
-      → (entity : Entity) × IsEntityOf (linked built) (ids built) entity × IsSiteOf built entity site
+      → (entity : Entity) × IsEntityOf (asked_of built) (linked built) (ids built) entity × IsSiteOf built entity site
       × ((other : Entity) → IsSiteOf built other site → other ≡ entity)
   each site there =
       let listed = contained result.index.documents site.place.document site.document there.document_is in
@@ -199,14 +238,14 @@ module _ {allows : Seen → Choice → Type 0} {settings : Settings} {tree : Lis
 
   -- a site has the definition's role just where it defines
   role : (entity : Entity) (site : Site) → (of : IsSiteOf built entity site)
-      → is_definition site.occurrence ≡ defines of.1.occurs
-  role entity site of = role_is of.1.occurs
+      → is_definition site.occurrence ≡ of.1.defines_it
+  role entity site of = role_is_as of.1.occurs
 
   by_role : (entity : Entity) (site : Site) → (of : IsSiteOf built entity site) → (is_definition site.occurrence ≡ true)
-      ↔ (defines of.1.occurs ≡ true)
+      ↔ (of.1.defines_it ≡ true)
   by_role entity site of =
       let bit = is_definition site.occurrence in
-      let rules = defines of.1.occurs in
+      let rules = of.1.defines_it in
       let same : bit ≡ rules = role entity site of in
       (λ e. sym {a = bit} {b = rules} same ∙ e, λ e. same ∙ e)
 
@@ -237,7 +276,7 @@ module _ {allows : Seen → Choice → Type 0} {settings : Settings} {tree : Lis
     is_global subject of entity is =
         let its = of_files entity of.named.document of.occurrence is in
         ap is_local (sym of.symbol ∙ symbol_of entity its of.named.document of.occurrence is)
-        ∙ not_local (package_of_entity (linked built) (ids built) its) entity
+        ∙ not_local (package_of_entity (asked_of built) (linked built) (ids built) its) entity
 
     at_position : (subject : Subject) (of : IsAsked result.index path line column subject) (entity : Entity)
         → IsOf built entity of.named.document of.occurrence → IsAt built path line column entity
@@ -316,13 +355,15 @@ module _ {allows : Seen → Choice → Type 0} {settings : Settings} {tree : Lis
     used = λ source facts type_use component is has listed among named.
         component_names (linked built) (ids built) source laws.targets apart.origins facts type_use component is
         has listed among (resolves built source facts type_use is has listed named);
+    in_options = λ known file text span is has.
+        option_component_names (linked built) (ids built) file laws.in_options apart.origins known text span has;
     each = each;
     symbol = λ entity site of is. symbol_of entity of site.document site.occurrence is.1;
     one_to_one = λ entity other is its. (
       same_entity entity other is its,
-      one_symbol (linked built) (ids built) apart good are_packages laws entity other is its,
+      one_symbol (asked_of built) (linked built) (ids built) apart good are_packages laws entity other is its,
     );
-    own = own_entity (linked built) (ids built) apart good are_packages laws;
+    own = own_entity (asked_of built) (linked built) (ids built) apart good are_packages laws;
     role = role;
     references = references;
     definitions = definitions;

@@ -5,7 +5,7 @@ use Rattle.std.specs.List.{slice_get}
 use Rattle.std.proofs.lemmas.Option.{same_Some, none-some, slice_get_within}
 use Rattle.std.proofs.lemmas.List.Elements.{All-contains}
 use Rattle.basics.proofs.ListLemmas.{item_at}
-use Rattle.proto_decl.specs.declared.form.FactForm.{FactForm}
+use Rattle.scip_build.specs.declared.read_form.ReadForm.{ReadForm}
 use Rattle.proto_parse.specs.dialect.Dialect.{Dialect}
 use Rattle.proto_decl.specs.Facts.{Facts, AreFactsOf, AreOfSomeFile}
 use Rattle.proto_decl.specs.Values.{Seen}
@@ -44,7 +44,7 @@ present_origin omissions all number file at present =
     (present_kept (linked_files all) omissions number file
     (subst (λ fs. slice_get fs number ≡ Some file) (linked_is omissions all) at) present)
 
-module _ (faulty : Faulty) (dialect : Dialect) (form : FactForm) (allows : Seen → Choice → Type 0)
+module _ (faulty : Faulty) (dialect : Dialect) (form : ReadForm) (allows : Seen → Choice → Type 0)
     (tree : List TreeFile) (parsed : List ReadFile)
     (are : AreParsedFiles faulty dialect form allows tree parsed) where
   -- a linked file, as it was read and as it is in the tree
@@ -68,12 +68,12 @@ module _ (faulty : Faulty) (dialect : Dialect) (form : FactForm) (allows : Seen 
         is = are.each number there.0 read.0 there.1 read.1;
       }
 
-  of_some_file : (number : ℕ) (bytes : List ℕ) (facts : Facts) → AreFactsIn dialect form number bytes facts
+  of_some_file : (number : ℕ) (bytes : List ℕ) (facts : Facts) → AreFactsIn dialect form.facts number bytes facts
       → AreOfSomeFile facts
   of_some_file number bytes facts has =
-      let Of : ℕ → Type 0 = λ n. AreFactsOf (form_by dialect form) n has.lexed has.tree facts in
+      let Of : ℕ → Type 0 = λ n. AreFactsOf (form_by dialect form.facts) n has.lexed has.tree facts in
       record {
-        form = form_by dialect form;
+        form = form_by dialect form.facts;
         lexed = has.lexed;
         file = has.tree;
         is_lexed = has.lexing.is_lexed;

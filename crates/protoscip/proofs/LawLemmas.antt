@@ -64,6 +64,7 @@ split allows settings tree workers (fault.Unresolved place) is named =
     inr (record { because = build.Unresolved place; is = is; named = λ memory. cc; same = refl })
 split allows settings tree workers (fault.Ambiguous place) is named =
     inr (record { because = build.Ambiguous place; is = is; named = λ memory. cc; same = refl })
+split allows settings tree workers (fault.OptionGap place) is named = absurd is
 split allows settings tree workers (fault.Uncertain place behind) is named = absurd is
 split allows settings tree workers fault.TooLarge is named = inl (refl, is)
 split allows settings tree workers (fault.Write count) is named = absurd is
@@ -120,6 +121,7 @@ module _ (allows others : Seen → Choice → Type 0) where
   indexed_has_no_fault none settings tree workers recorded bytes (fault.Ambiguous place) indexed is =
       absurd (none settings tree workers (built_of indexed.index recorded)
       (build.Ambiguous place) indexed.built is (λ same. cc))
+  indexed_has_no_fault none settings tree workers recorded bytes (fault.OptionGap place) indexed is = absurd is
   indexed_has_no_fault none settings tree workers recorded bytes (fault.Uncertain place behind) indexed is = absurd is
   indexed_has_no_fault none settings tree workers recorded bytes fault.TooLarge indexed is = inr refl
   indexed_has_no_fault none settings tree workers recorded bytes (fault.Write count) indexed is = absurd is

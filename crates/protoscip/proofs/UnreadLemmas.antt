@@ -54,6 +54,7 @@ unlike (fault.Duplicate first second) = refl
 unlike (fault.MissingImport place) = refl
 unlike (fault.Unresolved place) = refl
 unlike (fault.Ambiguous place) = refl
+unlike (fault.OptionGap place) = refl
 unlike (fault.Uncertain place behind) = refl
 unlike fault.TooLarge = refl
 unlike (fault.Write count) = refl

@@ -1,6 +1,7 @@
--- A use that names a type has a target, so each component of a use of a source names an entity.
-use Rattle.std.proofs.Common.{◌≡◌, ◌+◌, ◌-◌, ◌<◌, ◌≤◌, ℕ, zero, suc, true, List, [], ◌∷◌, length, take, Some, ap, sym, refl}
-use Rattle.std.proofs.Common.{subst, arith}
+-- A use that names a type has a target, so each component of a use of a source names an entity; and so does each
+-- component of a name in an option that names something.
+use Rattle.std.proofs.Common.{◌≡◌, ◌+◌, ◌-◌, ◌<◌, ◌≤◌, ℕ, zero, suc, true, List, [], ◌∷◌, ◌++◌, length, take}
+use Rattle.std.proofs.Common.{Some, ap, sym, refl, subst, arith}
 use Rattle.std.specs.Prelude.{Contains}
 use Rattle.std.specs.List.{slice_get}
 use Rattle.std.proofs.lemmas.Bool.{false≢true}
@@ -8,25 +9,36 @@ use Rattle.std.proofs.lemmas.Option.{same_Some, none-some}
 use Rattle.std.proofs.lemmas.List.Elements.{All-contains}
 use Rattle.basics.proofs.ListLemmas.{item_at}
 use Rattle.proto_decl.specs.Names.{components_of, prefix_of}
-use Rattle.proto_decl.specs.Facts.{Facts, AreOfSomeFile}
+use Rattle.proto_lex.specs.declared.span.Span.{Span}
+use Rattle.proto_decl.specs.Facts.{Facts, AreOfSomeFile, NamesAreFilled}
 use Rattle.proto_decl.specs.Laws.{IsEntity, PrefixesAreEntities}
 use Rattle.proto_decl.specs.Laws.IsEntity.{packaged as entity_packaged, declared as entity_declared}
 use Rattle.proto_decl.specs.declared.declaration.Declaration.{Declaration}
 use Rattle.proto_decl.specs.declared.uses.Component.{Component}
 use Rattle.proto_decl.specs.declared.uses.Use.{Use}
+use Rattle.proto_options.specs.declared.names.OptionName.{OptionName}
 use Rattle.proto_visibility.specs.declared.lookup.Entity.{Entity as Part}
 use Rattle.proto_visibility.specs.declared.lookup.Entity.TheVariants as link
 use Rattle.proto_visibility.specs.Files.{File, HasFacts, HaveOrigins, IsSource}
 use Rattle.proto_visibility.specs.Knows.{NameKind, DeclaresName, IsEntityOf as IsNamed, is_type}
 use Rattle.proto_visibility.specs.Knows.DeclaresName.{declared as gives_declared, packaged as gives_packaged}
 use Rattle.proto_visibility.specs.Knows.IsEntityOf.{packaged as named_package, declared as named_declared}
-use Rattle.basics.proofs.FirstLemmas.{at_contained}
+use Rattle.basics.proofs.FirstLemmas.{at_contained, contained}
 use Rattle.proto_link.proofs.TargetLemmas.{gives_type, used_fit}
 use Rattle.scip_symbol.specs.Entities.{Entity, OfPackage}
 use Rattle.scip_model.specs.Conditions.{IsResolved}
 use Rattle.scip_model.specs.Packages.{Packages}
 use Rattle.scip_model.specs.Named.{NamesIn, IsNamedAs, declaration_in, home_of_file}
-use Rattle.protoscip.specs.UseLaws.{EachUseHasATarget}
+use Rattle.scip_model.specs.Options.{NamesInOption}
+use Rattle.option_link.specs.declared.facts.OptionFacts.{OptionFacts}
+use Rattle.option_link.specs.declared.target.OptionTarget.{OptionTarget}
+use Rattle.option_link.specs.declared.place.DeclaredPlace.{DeclaredPlace}
+use Rattle.option_link.specs.Found.{NamesOuterParts}
+use Rattle.option_link.specs.OptionNames.{NamesParts}
+use Rattle.option_link.proofs.FitLemmas.{has_parts}
+use Rattle.option_link.proofs.PartLemmas.{parts_by}
+use Rattle.protoscip.specs.Headline.{IsComponentInOption}
+use Rattle.protoscip.specs.UseLaws.{EachUseHasATarget, EachOptionNameHasParts}
 
 -- ---- a list of what there is for each place
 
@@ -62,15 +74,22 @@ entity_named owner facts name count _ (entity_declared {declaration = declared} 
     (link.Declared owner there.0, named_declared (at_contained facts.declarations declared there) same)
 
 module _ (fronts : (facts : Facts) → AreOfSomeFile facts → PrefixesAreEntities facts) where
+  front_of : (owner : ℕ) (facts : Facts) → AreOfSomeFile facts → (declared : Declaration)
+      → Contains facts.declarations declared → (count : ℕ) → 0 < count
+      → count ≤ length (components_of declared.full_name)
+      → (part : Part) × IsNamed owner facts (prefix_of declared.full_name count) count part
+  front_of owner facts origin declared listed count some few =
+      let Fronts : Declaration → Type 0 = λ d. (n : ℕ) → 0 < n → n ≤ length (components_of d.full_name)
+      → IsEntity facts (prefix_of d.full_name n) in
+      let is = All-contains Fronts facts.declarations declared (fronts facts origin) listed count some few in
+      entity_named owner facts declared.full_name count (prefix_of declared.full_name count) is refl
+
   front_named : (owner : ℕ) (facts : Facts) → AreOfSomeFile facts → (name : List ℕ) (kind : NameKind)
       → DeclaresName facts name kind → is_type kind ≡ true → (count : ℕ) → 0 < count
       → count ≤ length (components_of name)
       → (part : Part) × IsNamed owner facts (prefix_of name count) count part
   front_named owner facts origin _ _ (gives_declared {declaration = declared} listed) admitted count some few =
-      let Fronts : Declaration → Type 0 = λ d. (n : ℕ) → 0 < n → n ≤ length (components_of d.full_name)
-      → IsEntity facts (prefix_of d.full_name n) in
-      let is = All-contains Fronts facts.declarations declared (fronts facts origin) listed count some few in
-      entity_named owner facts declared.full_name count (prefix_of declared.full_name count) is refl
+      front_of owner facts origin declared listed count some few
   front_named owner facts origin _ _ (gives_packaged prefix) admitted count one many = absurd (false≢true admitted)
 
 pub each_use_has_a_target : ((facts : Facts) → AreOfSomeFile facts → PrefixesAreEntities facts) → EachUseHasATarget
@@ -98,6 +117,34 @@ each_use_has_a_target fronts files origins file type_use name owner names =
         named = parts.each;
       },
     )
+
+-- the last component of a name in an option names what is declared there, and those in front of it are entities
+pub each_option_name_has_parts : ((facts : Facts) → AreOfSomeFile facts → PrefixesAreEntities facts)
+    → ((facts : Facts) → AreOfSomeFile facts → NamesAreFilled facts.declarations) → EachOptionNameHasParts
+each_option_name_has_parts fronts filled files origins known file text option number name at names =
+    let has = has_parts files origins filled known file text option number name name.role names.context at
+    names.names in
+    let d = has.declaration in
+    let stands = has.stands in
+    let few = has.few in
+    let count = length name.name.components in
+    let skipped = length (components_of d.full_name) - count in
+    let facts = stands.facts in
+    let outer = are_each
+    (λ j part. IsNamed at.file facts (prefix_of d.full_name (skipped + j + 1)) (skipped + j + 1) part) (count - 1)
+    (λ j within. front_of fronts at.file facts (origins at.file facts stands.known) d
+    (contained facts.declarations at.index d stands.listed) (skipped + j + 1) (omega arith)
+    (omega (arith, within, few))) in
+    let before : NamesOuterParts files name at outer.list = record {
+      declaration = d;
+      stands = stands;
+      skipped = skipped;
+      split = omega (arith, few);
+      one_each = omega (arith, outer.one_each, has.some);
+      named = outer.each;
+    } in
+    let all = outer.list ++ link.Declared at.file at.index ∷ [] in
+    (all, parts_by files name at outer.list before all refl)
 
 -- ---- the components of a source's uses
 
@@ -132,6 +179,35 @@ module _ (files : List File) (ids : Packages) (source : ℕ) where
           listed = listed;
           is_target = target.1;
           component_is = at_contained type_use.components component among;
+          part_is = part.1;
+          entity_is = entity.1;
+        },
+      )
+
+  -- so do the components of a name in one of its options that names something in a file that counts
+  pub option_component_names : EachOptionNameHasParts → HaveOrigins files → (known : List OptionFacts) (text : List ℕ)
+      (span : Span) → IsComponentInOption files known source text span
+      → (part : Part) × (entity : Entity) × NamesInOption files known ids source text span part entity
+  option_component_names each origins known text span has =
+      let parts = each files origins known source text has.option has.number has.name has.at has.names in
+      let are = parts.1 in
+      let target : OptionTarget = record { name_number = has.number; parts = parts.0 } in
+      let among = has.component in
+      let part = item_at parts.0 among.0 (omega (arith, among.1, are.one_each)) in
+      let entity = named_as has.at.file are.facts are.known are.declaration.full_name _ _ part.0
+      (are.named among.0 part.0 part.1) in (
+        part.0,
+        entity.0,
+        record {
+          beside = has.beside;
+          its = has.its;
+          option = has.option;
+          listed = has.listed;
+          target = target;
+          is_target = record { name = has.name; at = has.at; names = has.names; parts = are };
+          counts = has.counts;
+          index = among.0;
+          component_is = at_contained has.name.name.components span among;
           part_is = part.1;
           entity_is = entity.1;
         },

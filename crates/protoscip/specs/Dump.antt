@@ -48,6 +48,7 @@ dump_settings dialect = record {
   dialect = dialect;
   comments = Raw;
   details = false;
+  options = false;
   faulty = Refuse;
   duplicates = names.Refuse;
 }

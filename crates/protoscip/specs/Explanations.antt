@@ -21,7 +21,7 @@ use Rattle.protoscip.specs.FaultTexts.{sentence_of, syntax_sentence}
 use Rattle.protoscip.specs.Required.{has_required}
 use Rattle.protoscip.specs.declared.fault.Fault.{Fault}
 use Rattle.protoscip.specs.declared.fault.Fault.TheVariants.{Memory, Lex, Syntax, Duplicate, MissingImport}
-use Rattle.protoscip.specs.declared.fault.Fault.TheVariants.{Unresolved, Ambiguous, Uncertain}
+use Rattle.protoscip.specs.declared.fault.Fault.TheVariants.{Unresolved, Ambiguous, OptionGap, Uncertain}
 
 -- ---- sentences
 
@@ -133,6 +133,7 @@ explanation_of tree (Duplicate first second) hints = at_both tree first second (
 explanation_of tree (MissingImport place) hints = at_place tree place (sentence_in tree (MissingImport place))
 explanation_of tree (Unresolved place) hints = at_place tree place (sentence_of (Unresolved place))
 explanation_of tree (Ambiguous place) hints = at_place tree place (sentence_of (Ambiguous place))
+explanation_of tree (OptionGap place) hints = at_place tree place (sentence_of (OptionGap place))
 explanation_of tree (Uncertain place behind) hints = at_place tree place (sentence_of (Uncertain place behind))
 explanation_of tree fault hints = codes "\n" ++ sentence_of fault
 

@@ -12,7 +12,8 @@ use Rattle.protoscip.specs.Faults.{fault_of_omission}
 use Rattle.protoscip.specs.Lines.{plain_line, line_at, placed_line}
 use Rattle.protoscip.specs.declared.fault.Fault.{Fault}
 use Rattle.protoscip.specs.declared.fault.Fault.TheVariants.{Spawn, Memory, Lex, Syntax, Duplicate, MissingImport}
-use Rattle.protoscip.specs.declared.fault.Fault.TheVariants.{Unresolved, Ambiguous, Uncertain, TooLarge, Write, Read, Answer}
+use Rattle.protoscip.specs.declared.fault.Fault.TheVariants.{Unresolved, Ambiguous, OptionGap, Uncertain}
+use Rattle.protoscip.specs.declared.fault.Fault.TheVariants.{TooLarge, Write, Read, Answer}
 
 -- ---- lines
 
@@ -32,7 +33,7 @@ uncertain_line path at behind =
     codes "protoscip: uncertain: " ++ path ++ codes "@" ++ decimal at ++ codes " behind " ++ behind
 
 -- the line of a fault, over this tree, with words before the path of the file at fault: `skipped` if the file is left
--- out for it, and `unresolved` if it only has an import or a use without a target
+-- out for it, and `unresolved` if it only has an import, a use or an option without a target
 abbrev pub line_with : (skipped unresolved : List ℕ) → List TreeFile → Fault → List ℕ
 line_with skipped unresolved tree (Lex number fault) =
     placed_line (skipped ++ path_of tree number) (lex_offset fault) (name_of (Lex number fault))
@@ -46,6 +47,8 @@ line_with skipped unresolved tree (Unresolved place) =
     line_at (unresolved ++ path_of tree place.file) place.span.start (name_of (Unresolved place))
 line_with skipped unresolved tree (Ambiguous place) =
     line_at (unresolved ++ path_of tree place.file) place.span.start (name_of (Ambiguous place))
+line_with skipped unresolved tree (OptionGap place) =
+    line_at (unresolved ++ path_of tree place.file) place.span.start (name_of (OptionGap place))
 line_with skipped unresolved tree (Uncertain place behind) =
     uncertain_line (path_of tree place.file) place.span.start (path_of tree behind)
 line_with skipped unresolved tree fault = plain_line (name_of fault)
@@ -69,6 +72,7 @@ HasFilesOf tree (Duplicate first second) = HasFile tree first.file × HasFile tr
 HasFilesOf tree (MissingImport place) = HasFile tree place.file
 HasFilesOf tree (Unresolved place) = HasFile tree place.file
 HasFilesOf tree (Ambiguous place) = HasFile tree place.file
+HasFilesOf tree (OptionGap place) = HasFile tree place.file
 HasFilesOf tree (Uncertain place behind) = HasFile tree place.file × HasFile tree behind
 HasFilesOf tree TooLarge = ⊤
 HasFilesOf tree (Write count) = ⊤

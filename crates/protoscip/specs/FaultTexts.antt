@@ -9,7 +9,8 @@ use Rattle.proto_parse.specs.fault.SyntaxFault.{SyntaxFault}
 use Rattle.proto_parse.specs.fault.SyntaxFault.TheVariants as parsing
 use Rattle.protoscip.specs.declared.fault.Fault.{Fault}
 use Rattle.protoscip.specs.declared.fault.Fault.TheVariants.{Spawn, Memory, Lex, Syntax, Duplicate, MissingImport}
-use Rattle.protoscip.specs.declared.fault.Fault.TheVariants.{Unresolved, Ambiguous, Uncertain, TooLarge, Write, Read, Answer}
+use Rattle.protoscip.specs.declared.fault.Fault.TheVariants.{Unresolved, Ambiguous, OptionGap, Uncertain}
+use Rattle.protoscip.specs.declared.fault.Fault.TheVariants.{TooLarge, Write, Read, Answer}
 use Rattle.protoscip.specs.declared.statuses.TheConstants.{MEMORY_STATUS, SOURCES_STATUS, STREAM_STATUS}
 
 -- the sentence is empty for lack of memory
@@ -85,6 +86,7 @@ text_of (MissingImport place) =
 text_of (Unresolved place) = refused (codes "Unresolved") (codes "no type that this source sees has this name")
 text_of (Ambiguous place) =
     refused (codes "Ambiguous") (codes "several files that this source sees declare a type of this name")
+text_of (OptionGap place) = refused (codes "Option") (codes "nothing that may stand in this option has this name")
 text_of (Uncertain place behind) =
     refused (codes "Uncertain")
     (codes "a file that this source sees can't be read: it may declare a nearer type of this name")

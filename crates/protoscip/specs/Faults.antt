@@ -12,7 +12,8 @@ use Rattle.scip_wire.specs.declared.write_fault.WriteFault.{WriteFault}
 use Rattle.scip_wire.specs.declared.write_fault.WriteFault.TheVariants as writing
 use Rattle.protoscip.specs.declared.fault.Fault.{Fault}
 use Rattle.protoscip.specs.declared.fault.Fault.TheVariants.{Spawn, Memory, Lex, Syntax, Duplicate, MissingImport}
-use Rattle.protoscip.specs.declared.fault.Fault.TheVariants.{Unresolved, Ambiguous, Uncertain, TooLarge, Write, Read, Answer}
+use Rattle.protoscip.specs.declared.fault.Fault.TheVariants.{Unresolved, Ambiguous, OptionGap, Uncertain}
+use Rattle.protoscip.specs.declared.fault.Fault.TheVariants.{TooLarge, Write, Read, Answer}
 
 -- why the file with this number can't be read
 abbrev pub fault_of_file : ℕ → FileFault → Fault
@@ -35,6 +36,7 @@ fault_of_omission (omitted.Duplicate first second) = Duplicate first second
 fault_of_omission (omitted.MissingImport place) = MissingImport place
 fault_of_omission (omitted.Unresolved place) = Unresolved place
 fault_of_omission (omitted.Ambiguous place) = Ambiguous place
+fault_of_omission (omitted.OptionGap place) = OptionGap place
 fault_of_omission (omitted.Uncertain place behind) = Uncertain place behind
 
 abbrev pub fault_of_writing : WriteFault → Fault

@@ -19,8 +19,8 @@ use Rattle.protoscip.specs.Faults.{fault_of_omission}
 use Rattle.protoscip.specs.ToldLines.{is_import, is_skipped, is_skipped_source, is_use, left_out}
 use Rattle.protoscip.specs.Unread.{unread_finding}
 use Rattle.protoscip.specs.declared.fault.Fault.{Fault}
-use Rattle.protoscip.specs.declared.fault.Fault.TheVariants.{Lex, Syntax, Duplicate, MissingImport, Unresolved, Ambiguous}
-use Rattle.protoscip.specs.declared.fault.Fault.TheVariants.{Uncertain}
+use Rattle.protoscip.specs.declared.fault.Fault.TheVariants.{Lex, Syntax, Duplicate, MissingImport}
+use Rattle.protoscip.specs.declared.fault.Fault.TheVariants.{Unresolved, Ambiguous, OptionGap, Uncertain}
 
 -- ---- a finding
 
@@ -40,6 +40,7 @@ place_of tree (Duplicate first second) = Some (place_of_span tree second)
 place_of tree (MissingImport place) = Some (place_of_span tree place)
 place_of tree (Unresolved place) = Some (place_of_span tree place)
 place_of tree (Ambiguous place) = Some (place_of_span tree place)
+place_of tree (OptionGap place) = Some (place_of_span tree place)
 place_of tree (Uncertain place behind) = Some (place_of_span tree place)
 place_of tree fault = None
 
@@ -66,13 +67,14 @@ finding_of kind tree fault = record {
 
 -- ---- all findings
 
--- of what an index lacks: a file is left out, an import or a use has no target, or a use may have another one
+-- of what an index lacks: a file is left out, an import, a use or an option has no target, or a use may have another
 abbrev pub kind_of : Omission → FindingKind
 kind_of (omitted.File number fault) = kind.Skipped
 kind_of (omitted.Duplicate first second) = kind.Skipped
 kind_of (omitted.MissingImport place) = kind.Unresolved
 kind_of (omitted.Unresolved place) = kind.Unresolved
 kind_of (omitted.Ambiguous place) = kind.Unresolved
+kind_of (omitted.OptionGap place) = kind.Unresolved
 kind_of (omitted.Uncertain place behind) = kind.Uncertain
 
 abbrev pub told_finding : List TreeFile → Omission → Found
@@ -109,13 +111,14 @@ is_import_at place fault = false
 abbrev pub is_use_at : FilePlace → Fault → Bool
 is_use_at place (Unresolved other) = is_one_place place other
 is_use_at place (Ambiguous other) = is_one_place place other
+is_use_at place (OptionGap other) = is_one_place place other
 is_use_at place fault = false
 
 abbrev pub is_uncertain_at : FilePlace → Fault → Bool
 is_uncertain_at place (Uncertain other behind) = is_one_place place other
 is_uncertain_at place fault = false
 
--- the second tells of the same file, import or use as the first
+-- the second tells of the same file, import, use or option as the first
 abbrev pub tells_same : Fault → Fault → Bool
 tells_same (Lex number fault) other = leaves_out number other
 tells_same (Syntax number fault) other = leaves_out number other
@@ -123,6 +126,7 @@ tells_same (Duplicate first second) other = leaves_out second.file other
 tells_same (MissingImport place) other = is_import_at place other
 tells_same (Unresolved place) other = is_use_at place other
 tells_same (Ambiguous place) other = is_use_at place other
+tells_same (OptionGap place) other = is_use_at place other
 tells_same (Uncertain place behind) other = is_uncertain_at place other
 tells_same fault other = false
 

@@ -1,10 +1,11 @@
 -- The headline: what holds of the bytes of a tree's index, and of queries over them.
-use Rattle.std.specs.Prelude.{◌≡◌, ◌↔◌, ◌<◌, ◌≤◌, ℕ, ◌+◌, Bool, true, false, Some, Result, Ok, Err, List}
-use Rattle.std.specs.Prelude.{length, Contains}
+use Rattle.std.specs.Prelude.{◌≡◌, ◌↔◌, ◌<◌, ◌≤◌, ℕ, ◌+◌, Bool, true, false, Option, Some, None}
+use Rattle.std.specs.Prelude.{Result, Ok, Err, List, length, Contains}
 use Rattle.std.specs.declared.cmp.Ordering.{Ordering}
 use Rattle.std.specs.Ordering.{nat_cmp, on, then_cmp}
 use Rattle.std.specs.List.{slice_get}
 use Rattle.proto_lex.specs.declared.position.Encoding.{Encoding}
+use Rattle.proto_lex.specs.declared.span.Span.{Span}
 use Rattle.proto_decl.specs.Facts.{Facts}
 use Rattle.proto_decl.specs.Values.{Seen}
 use Rattle.proto_decl.specs.declared.declaration.Declaration.{Declaration}
@@ -13,6 +14,12 @@ use Rattle.proto_decl.specs.declared.uses.Use.{Use}
 use Rattle.proto_visibility.specs.declared.lookup.Entity.{Entity as Part}
 use Rattle.proto_visibility.specs.Files.{File, HasFacts, IsSource}
 use Rattle.proto_visibility.specs.Sees.{IsReachable}
+use Rattle.proto_options.specs.declared.names.OptionName.{OptionName}
+use Rattle.proto_options.specs.declared.options.FileOption.{FileOption}
+use Rattle.option_link.specs.declared.facts.OptionFacts.{OptionFacts}
+use Rattle.option_link.specs.declared.place.DeclaredPlace.{DeclaredPlace}
+use Rattle.option_link.specs.Counted.{Counts}
+use Rattle.option_link.specs.OptionNames.{NamesPlace}
 use Rattle.index_hooks.specs.declared.choice.Choice.{Choice}
 use Rattle.source_tree.specs.Files.{TreeFile}
 use Rattle.source_tree.specs.Trees.{IsTree}
@@ -21,15 +28,17 @@ use Rattle.scip_symbol.specs.Package.{Package}
 use Rattle.scip_model.specs.Packages.{Packages, ArePackages, naming, package_of_file}
 use Rattle.scip_model.specs.Chosen.{Chosen}
 use Rattle.scip_model.specs.Conditions.{IsResolved}
-use Rattle.scip_model.specs.Indexes.{HasDocument, IsAscendingListOf}
+use Rattle.scip_model.specs.Indexes.{HasDocumentWith, IsAscendingListOf}
 use Rattle.scip_model.specs.Named.{HasDeclaration, NamesIn, text_of, package_at, declaration_in, home_of_file}
 use Rattle.scip_model.specs.Occurs.{Occurs}
 use Rattle.scip_model.specs.Occurs as rule
+use Rattle.scip_model.specs.Options.{NamesInOption, OccursInOptions}
+use Rattle.scip_model.specs.Options.OccursInOptions.{of_option}
 use Rattle.scip_records.specs.declared.records.Index.{Index}
 use Rattle.scip_records.specs.declared.records.Document.{Document}
 use Rattle.scip_records.specs.declared.records.Occurrence.{Occurrence}
 use Rattle.scip_build.specs.Builds.{IsBuilt}
-use Rattle.scip_build.specs.Documents.{texts_of}
+use Rattle.scip_build.specs.Documents.{asked_in, texts_of}
 use Rattle.scip_build.specs.Linking.{linked_files}
 use Rattle.scip_build.specs.Placing.{document_at}
 use Rattle.scip_build.specs.declared.built.Built.{Built}
@@ -44,23 +53,28 @@ use Rattle.protoscip.specs.Indexes.{built_of, IsIndexed}
 
 -- ---- what is named
 
+-- A file counts if some source sees it; and if names in options are linked, so do others whose names are their own.
+abbrev pub CountsWith : (asked : Option (List OptionFacts)) → List File → (number : ℕ) → Type 0
+CountsWith None files number = IsReachable files number
+CountsWith (Some known) files number = Counts files number
+
 -- The entities of linked files: each file that counts, its package with those above it, and what it declares.
-pub data IsEntityOf (files : List File) (ids : Packages) : Entity → Type 0 where
-  of_file : {number : ℕ} {file : File} → IsReachable files number → slice_get files number ≡ Some file
-      → IsEntityOf files ids (OfFile file.path)
-  of_package : {number count : ℕ} {facts : Facts} → IsReachable files number → HasFacts files number facts → 0 < count
-      → count ≤ length facts.package_name
-      → IsEntityOf files ids (package_at facts count)
-  of_declaration : {number index : ℕ} {facts : Facts} {declared : Declaration} → IsReachable files number
+pub data IsEntityOf (asked : Option (List OptionFacts)) (files : List File) (ids : Packages) : Entity → Type 0 where
+  of_file : (number : ℕ) {file : File} → CountsWith asked files number → slice_get files number ≡ Some file
+      → IsEntityOf asked files ids (OfFile file.path)
+  of_package : (number : ℕ) {count : ℕ} {facts : Facts} → CountsWith asked files number → HasFacts files number facts
+      → 0 < count → count ≤ length facts.package_name
+      → IsEntityOf asked files ids (package_at facts count)
+  of_declaration : (number : ℕ) {index : ℕ} {facts : Facts} {declared : Declaration} → CountsWith asked files number
       → HasDeclaration files number index facts declared
-      → IsEntityOf files ids (declaration_in (home_of_file files ids number) facts declared)
+      → IsEntityOf asked files ids (declaration_in (home_of_file files ids number) facts declared)
 
 -- the package of an entity: that of the file which it is, or which declares it, and of a proto package the run's
-abbrev pub package_of_entity : (files : List File) (ids : Packages) {entity : Entity} → IsEntityOf files ids entity
-    → Package
-package_of_entity files ids (of_file {number = number} counts numbered) = package_of_file files ids number
-package_of_entity files ids (of_package counts has some few) = ids.run
-package_of_entity files ids (of_declaration {number = number} counts has) = package_of_file files ids number
+abbrev pub package_of_entity : (asked : Option (List OptionFacts)) (files : List File) (ids : Packages)
+    {entity : Entity} → IsEntityOf asked files ids entity → Package
+package_of_entity asked files ids (of_file number counts numbered) = package_of_file files ids number
+package_of_entity asked files ids (of_package number counts has some few) = ids.run
+package_of_entity asked files ids (of_declaration number counts has) = package_of_file files ids number
 
 -- the entity that an occurrence names: the one of the rule by which it occurs
 abbrev pub entity_of : {files : List File} {chosen : Chosen} {ids : Packages} {encoding : Encoding} {source : ℕ}
@@ -84,6 +98,37 @@ defines (rule.of_package index has stands) = true
 defines (rule.of_declaration index has kept) = true
 defines (rule.of_component names shown) = false
 
+-- the entity that an occurrence of options names: what the component names
+abbrev pub entity_in_option : {files : List File} {known : List OptionFacts} {chosen : Chosen} {ids : Packages}
+    {encoding : Encoding} {source : ℕ} {text : List ℕ} {occurrence : Occurrence}
+    → OccursInOptions files known chosen ids encoding source text occurrence → Entity
+entity_in_option (of_option {entity = entity} names shown) = entity
+
+-- What an occurrence names, and whether it defines that: by a rule by which it occurs; or as a name in an option, if
+-- such names are linked, which defines nothing.
+pub data OccursAs (asked : Option (List OptionFacts)) (files : List File) (chosen : Chosen) (ids : Packages)
+    (encoding : Encoding) (source : ℕ) (text : List ℕ) (occurrence : Occurrence)
+    : Entity → (is_definition : Bool) → Type 0 where
+  by_rule : (occurs : Occurs files chosen ids encoding source text occurrence)
+      → OccursAs asked files chosen ids encoding source text occurrence (entity_of occurs) (defines occurs)
+  in_option : {known : List OptionFacts} → asked ≡ Some known
+      → (occurs : OccursInOptions files known chosen ids encoding source text occurrence)
+      → OccursAs asked files chosen ids encoding source text occurrence (entity_in_option occurs) false
+
+-- A component of a name in an option of a file with this text; the name names something in a file that counts.
+pub record IsComponentInOption (files : List File) (known : List OptionFacts) (file : ℕ) (text : List ℕ)
+    (span : Span) : Type 0 where
+  pub beside : OptionFacts
+  pub its : slice_get known file ≡ Some beside
+  pub option : FileOption
+  pub listed : Contains beside.options option
+  pub number : ℕ
+  pub name : OptionName
+  pub at : DeclaredPlace
+  pub names : NamesPlace files known file text option number name at
+  pub counts : Counts files at.file
+  pub component : Contains name.name.components span
+
 -- ---- what is answered
 
 -- A site of an index: its place has its document, and in that its occurrence.
@@ -102,21 +147,25 @@ module _ {allows : Seen → Choice → Type 0} {settings : Settings} {tree : Lis
   abbrev pub linked : List File
   linked = linked_files built.of_files.parsed
 
+  -- what is known of their options, if names in these are linked
+  abbrev pub asked : Option (List OptionFacts)
+  asked = asked_in settings built.of_files.parsed
+
   -- the packages of the symbols, with what is repeated among these files
   abbrev pub ids : Packages
   ids = naming settings.package built.of_files.repeated
 
-  -- An occurrence of a document is one of an entity: the document is that of a source, where the settings place it, and
-  -- a rule by which it occurs there names this entity.
+  -- An occurrence of a document is one of an entity, and defines it or doesn't: the document is that of a source, where
+  -- the settings place it, and it occurs there as one that does so.
   pub record IsOf (entity : Entity) (document : Document) (occurrence : Occurrence) : Type 0 where
     pub plain : Document
-    pub of_source : HasDocument linked
+    pub of_source : HasDocumentWith asked linked
         (texts_of built.of_files.parsed) result.choices ids settings.encoding plain
     pub placed : document ≡ document_at settings.at plain
-    pub occurs : Occurs linked result.choices ids settings.encoding
+    pub defines_it : Bool
+    pub occurs : OccursAs asked linked result.choices ids settings.encoding
         of_source.source
-        of_source.text occurrence
-    pub is : entity_of occurs ≡ entity
+        of_source.text occurrence entity defines_it
 
   -- a site of the index is one of an entity
   abbrev pub IsSiteOf : Entity → Site → Type 0
@@ -124,7 +173,7 @@ module _ {allows : Seen → Choice → Type 0} {settings : Settings} {tree : Lis
 
   -- a site that defines an entity, by the rule by which its occurrence occurs
   abbrev pub IsDefinitionOf : Entity → Site → Type 0
-  IsDefinitionOf entity site = (of : IsSiteOf entity site) × (defines of.1.occurs ≡ true)
+  IsDefinitionOf entity site = (of : IsSiteOf entity site) × (of.1.defines_it ≡ true)
 
   -- At a position of the document that a path names there is an occurrence of an entity.
   pub record IsAt (path : List ℕ) (line column : ℕ) (entity : Entity) : Type 0 where
@@ -142,10 +191,11 @@ module _ {allows : Seen → Choice → Type 0} {settings : Settings} {tree : Lis
       (entity : Entity) × IsAt path line column entity × IsAscendingListOf site_cmp (IsWanted entity) sites
   Answers IsWanted path line column (Err miss) = (entity : Entity) → IsAt path line column entity → ⊥
 
-  -- Each component of a use in a source names an entity, so that it occurs unless what it names isn't kept. Each site
-  -- is one of an entity of the files, and of no other; entities and symbols are one to one, and a declaration's
-  -- entity is its own; a site has the definition's role if and only if it defines its entity; and a query answers the
-  -- occurrences of the entity asked, or its definitions among them, all of them and nothing else.
+  -- Each component of a use in a source names an entity, so that it occurs unless what it names isn't kept; if names in
+  -- options are linked, so does each component of one that names something in a file that counts. Each site is one of
+  -- an entity of the files, and of no other; entities and symbols are one to one, and a declaration's entity is its
+  -- own; a site has the definition's role if and only if it defines its entity; and a query answers the occurrences of
+  -- the entity asked, or its definitions among them, all of them and nothing else.
   pub record AnswersNames : Type 0 where
     pub used : (source : ℕ) (facts : Facts) (type_use : Use) (component : Component)
         → IsSource linked source
@@ -154,25 +204,30 @@ module _ {allows : Seen → Choice → Type 0} {settings : Settings} {tree : Lis
         → (settings.faulty ≡ Skip → IsResolved linked source type_use)
         → (part : Part) × (entity : Entity)
         × NamesIn linked ids source component part entity
+    pub in_options : (known : List OptionFacts) (file : ℕ) (text : List ℕ) (span : Span) → asked ≡ Some known
+        → IsComponentInOption linked known file text span
+        → (part : Part) × (entity : Entity)
+        × NamesInOption linked known ids file text span part entity
     pub each : (site : Site) → IsSite result.index site
-        → (entity : Entity) × IsEntityOf linked ids entity × IsSiteOf entity site
+        → (entity : Entity) × IsEntityOf asked linked ids entity × IsSiteOf entity site
         × ((other : Entity) → IsSiteOf other site → other ≡ entity)
-    pub symbol : (entity : Entity) (site : Site) (is : IsEntityOf linked ids entity)
+    pub symbol : (entity : Entity) (site : Site) (is : IsEntityOf asked linked ids entity)
         → IsSiteOf entity site
-        → site.occurrence.symbol ≡ text_of (package_of_entity linked ids is) entity
-    pub one_to_one : (entity other : Entity) (is : IsEntityOf linked ids entity)
-        (its : IsEntityOf linked ids other)
-        → (text_of (package_of_entity linked ids is) entity ≡ text_of (package_of_entity linked ids its) other)
+        → site.occurrence.symbol ≡ text_of (package_of_entity asked linked ids is) entity
+    pub one_to_one : (entity other : Entity) (is : IsEntityOf asked linked ids entity)
+        (its : IsEntityOf asked linked ids other)
+        → (text_of (package_of_entity asked linked ids is) entity
+        ≡ text_of (package_of_entity asked linked ids its) other)
         ↔ (entity ≡ other)
     pub own : (number index other its : ℕ) (facts more : Facts) (a b : Declaration)
-        → IsReachable linked number → IsReachable linked other
+        → CountsWith asked linked number → CountsWith asked linked other
         → HasDeclaration linked number index facts a
         → HasDeclaration linked other its more b
         → declaration_in (home_of_file linked ids number) facts a
         ≡ declaration_in (home_of_file linked ids other) more b
         → (number ≡ other) × (index ≡ its)
     pub role : (entity : Entity) (site : Site) → (of : IsSiteOf entity site)
-        → is_definition site.occurrence ≡ defines of.1.occurs
+        → is_definition site.occurrence ≡ of.1.defines_it
     pub references : (path : List ℕ) (line column : ℕ)
         → Answers IsSiteOf path line column (references_at result.index path (record { line = line; column = column }))
     pub definitions : (path : List ℕ) (line column : ℕ)

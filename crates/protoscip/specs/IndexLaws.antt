@@ -9,7 +9,8 @@ use Rattle.protoscip.specs.Indexes.{IsIndexed, IsRefused}
 use Rattle.protoscip.specs.declared.recorded.Recorded.{Recorded}
 use Rattle.protoscip.specs.declared.fault.Fault.{Fault}
 use Rattle.protoscip.specs.declared.fault.Fault.TheVariants.{Spawn, Memory, Lex, Syntax, Duplicate, MissingImport}
-use Rattle.protoscip.specs.declared.fault.Fault.TheVariants.{Unresolved, Ambiguous, Uncertain, TooLarge, Write, Read, Answer}
+use Rattle.protoscip.specs.declared.fault.Fault.TheVariants.{Unresolved, Ambiguous, OptionGap, Uncertain}
+use Rattle.protoscip.specs.declared.fault.Fault.TheVariants.{TooLarge, Write, Read, Answer}
 
 -- Whether a fault is one of the tree. The others are lack of memory or of a thread, and a failed read or write.
 abbrev pub is_of_tree : Fault → Bool
@@ -21,6 +22,7 @@ is_of_tree (Duplicate first second) = true
 is_of_tree (MissingImport place) = true
 is_of_tree (Unresolved place) = true
 is_of_tree (Ambiguous place) = true
+is_of_tree (OptionGap place) = true
 is_of_tree (Uncertain place behind) = true
 is_of_tree TooLarge = true
 is_of_tree (Write count) = false

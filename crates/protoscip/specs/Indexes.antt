@@ -18,7 +18,8 @@ use Rattle.scip_wire.specs.Spelling.{spelling_of, max_index_len}
 use Rattle.protoscip.specs.declared.recorded.Recorded.{Recorded}
 use Rattle.protoscip.specs.declared.fault.Fault.{Fault}
 use Rattle.protoscip.specs.declared.fault.Fault.TheVariants.{Spawn, Memory, Lex, Syntax, Duplicate, MissingImport}
-use Rattle.protoscip.specs.declared.fault.Fault.TheVariants.{Unresolved, Ambiguous, Uncertain, TooLarge, Write, Read, Answer}
+use Rattle.protoscip.specs.declared.fault.Fault.TheVariants.{Unresolved, Ambiguous, OptionGap, Uncertain}
+use Rattle.protoscip.specs.declared.fault.Fault.TheVariants.{TooLarge, Write, Read, Answer}
 
 -- the bytes of an index: its spelling, which isn't too long, and which decodes to it and to no other index
 pub record IsSpelled (index : Index) (bytes : List ℕ) : Type 0 where
@@ -61,6 +62,7 @@ IsRefused allows settings tree workers (Unresolved place) =
     IsBuildFault allows settings tree workers (build.Unresolved place)
 IsRefused allows settings tree workers (Ambiguous place) =
     IsBuildFault allows settings tree workers (build.Ambiguous place)
+IsRefused allows settings tree workers (OptionGap place) = ⊥
 IsRefused allows settings tree workers (Uncertain place behind) = ⊥
 IsRefused allows settings tree workers TooLarge =
     (built : Built) × IsBuilt allows settings tree built × (max_index_len < length (spelling_of built.index))

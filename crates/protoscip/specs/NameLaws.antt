@@ -6,10 +6,11 @@ use Rattle.proto_decl.specs.Laws.{AreNamed, AreHeld}
 use Rattle.proto_link.specs.Laws.{OneDeclarationAName}
 use Rattle.scip_symbol.specs.OneEntity.{IsWithoutClash, declarations_of, AreWithoutClash}
 use Rattle.scip_model.specs.Laws.{SymbolsNameOne}
-use Rattle.protoscip.specs.UseLaws.{EachUseHasATarget}
+use Rattle.protoscip.specs.UseLaws.{EachUseHasATarget, EachOptionNameHasParts}
 
 -- Names are identifiers, and what holds a declaration is declared; a full name is that of one declaration, and a
--- symbol's text that of one entity; and each use that names a type has a target.
+-- symbol's text that of one entity; each use that names a type has a target, and each component of a name in an option
+-- names an entity, if the name names something.
 pub record LawsOfNames : Type 0 where
   pub named : (facts : Facts) → AreOfSomeFile facts → AreNamed facts.package_name facts.declarations
   pub paths : (facts : Facts) → AreOfSomeFile facts → All (λ declaration. declaration.path ≢ []) facts.declarations
@@ -19,3 +20,4 @@ pub record LawsOfNames : Type 0 where
   pub unclashed : (files : List Facts) → AreWithoutClash files → IsWithoutClash (declarations_of files)
   pub symbols : SymbolsNameOne
   pub targets : EachUseHasATarget
+  pub in_options : EachOptionNameHasParts

@@ -44,10 +44,11 @@ abbrev pub is_import : Omission → Bool
 is_import (omitted.MissingImport place) = true
 is_import omission = false
 
--- a use has none
+-- a use or an option has none
 abbrev pub is_use : Omission → Bool
 is_use (omitted.Unresolved place) = true
 is_use (omitted.Ambiguous place) = true
+is_use (omitted.OptionGap place) = true
 is_use omission = false
 
 -- `protoscip: N sources indexed, N skipped, N imports and N uses without a target`

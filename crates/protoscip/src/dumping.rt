@@ -89,6 +89,7 @@ pub(crate) fn dump_settings(alloc: Global, dialect: Dialect) -> Result<Settings,
         dialect,
         comments: CommentForm::Raw,
         details: false,
+        options: false,
         faulty: Faulty::Refuse,
         duplicates: Duplicates::Refuse,
     })

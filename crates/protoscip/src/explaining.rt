@@ -139,6 +139,7 @@ fn hints_of(
         | Fault::MissingImport(_)
         | Fault::Unresolved(_)
         | Fault::Ambiguous(_)
+        | Fault::OptionGap(_)
         | Fault::Uncertain(..)
         | Fault::TooLarge
         | Fault::Write(_)
@@ -176,6 +177,7 @@ fn push_explanation(
         Fault::MissingImport(place) => push_at_place(alloc, out, counter, place, sentence),
         Fault::Unresolved(place) => push_at_place(alloc, out, counter, place, sentence),
         Fault::Ambiguous(place) => push_at_place(alloc, out, counter, place, sentence),
+        Fault::OptionGap(place) => push_at_place(alloc, out, counter, place, sentence),
         Fault::Uncertain(place, _) => push_at_place(alloc, out, counter, place, sentence),
         Fault::Spawn | Fault::TooLarge | Fault::Write(_) | Fault::Read | Fault::Answer(_) => {
             out.push_str("\n")?;

@@ -40,13 +40,18 @@ pub enum Fault {
     /// public ones of an included file that some source sees.
     #[error("an import of a file that isn't there, {0}")]
     MissingImport(FilePlace),
-    /// The first use that names no type, of the first source that has one, by the place of the whole use.
+    /// The first use that names no type, of the first source that has one, by the place of the whole use. If each names
+    /// one, and names in options are linked, the first option without a target, by the place of the name that has none.
     #[error("a use that names no type, {0}")]
     Unresolved(FilePlace),
     /// The same, if it names no type since several of the files declare it which are seen. It never comes if no two files
     /// may give one name.
     #[error("a use that names several types, {0}")]
     Ambiguous(FilePlace),
+    /// An option with a name that names nothing, and should, by the place of the first such name. It is told of an
+    /// index, and no run stops with it: one that is refused for such an option says `Unresolved`.
+    #[error("an option without a target, {0}")]
+    OptionGap(FilePlace),
     /// A use that names a type, but may name another one once the file with this number can be read. It is told of an
     /// index, and nothing stops for it.
     #[error("a use that is uncertain, {0}, behind file {1}")]
@@ -107,6 +112,7 @@ impl From<Omission> for Fault {
             Omission::MissingImport(place) => Fault::MissingImport(place),
             Omission::Unresolved(place) => Fault::Unresolved(place),
             Omission::Ambiguous(place) => Fault::Ambiguous(place),
+            Omission::OptionGap(place) => Fault::OptionGap(place),
             Omission::Uncertain(place, behind) => Fault::Uncertain(place, behind),
         }
     }

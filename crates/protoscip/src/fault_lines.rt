@@ -54,6 +54,7 @@ pub(crate) fn line_with(
         Fault::MissingImport(place) => line_at_place(alloc, unresolved, tree, place, name),
         Fault::Unresolved(place) => line_at_place(alloc, unresolved, tree, place, name),
         Fault::Ambiguous(place) => line_at_place(alloc, unresolved, tree, place, name),
+        Fault::OptionGap(place) => line_at_place(alloc, unresolved, tree, place, name),
         Fault::Uncertain(place, behind) => uncertain_line(
             alloc,
             path_of(tree, place.file),

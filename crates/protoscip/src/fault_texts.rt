@@ -139,6 +139,10 @@ impl Fault {
                 let sentence = "several files that this source sees declare a type of this name";
                 refused("Ambiguous", sentence)
             }
+            Fault::OptionGap(_) => {
+                let sentence = "nothing that may stand in this option has this name";
+                refused("Option", sentence)
+            }
             Fault::Uncertain(..) => {
                 let sentence =
                     "a file that this source sees can't be read: it may declare a nearer type of this name";

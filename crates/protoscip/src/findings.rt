@@ -86,6 +86,7 @@ fn place_of<'a>(counter: &mut TreeCounter<'a>, fault: &Fault) -> Option<Place<'a
         Fault::MissingImport(place) => Some(place_of_span(counter, place)),
         Fault::Unresolved(place) => Some(place_of_span(counter, place)),
         Fault::Ambiguous(place) => Some(place_of_span(counter, place)),
+        Fault::OptionGap(place) => Some(place_of_span(counter, place)),
         Fault::Uncertain(place, _) => Some(place_of_span(counter, place)),
         Fault::Spawn
         | Fault::Memory
@@ -162,6 +163,7 @@ fn kind_of(omission: &Omission) -> FindingKind
         Omission::File(..) | Omission::Duplicate(..) => FindingKind::Skipped,
         Omission::MissingImport(_) => FindingKind::Unresolved,
         Omission::Unresolved(_) | Omission::Ambiguous(_) => FindingKind::Unresolved,
+        Omission::OptionGap(_) => FindingKind::Unresolved,
         Omission::Uncertain(..) => FindingKind::Uncertain,
     }
 }
@@ -258,13 +260,14 @@ fn is_import_at(place: &FilePlace, fault: &Fault) -> bool
     }
 }
 
-/// Whether a fault is that of the use at this place.
+/// Whether a fault is that of the use or of the option at this place.
 fn is_use_at(place: &FilePlace, fault: &Fault) -> bool
     ensures { result ≡ is_use_at place.now fault.now }
 {
     match fault {
         Fault::Unresolved(other) => is_one_place(place, other),
         Fault::Ambiguous(other) => is_one_place(place, other),
+        Fault::OptionGap(other) => is_one_place(place, other),
         _ => false,
     }
 }
@@ -289,6 +292,7 @@ fn tells_same(fault: &Fault, other: &Fault) -> bool
         Fault::MissingImport(place) => is_import_at(place, other),
         Fault::Unresolved(place) => is_use_at(place, other),
         Fault::Ambiguous(place) => is_use_at(place, other),
+        Fault::OptionGap(place) => is_use_at(place, other),
         Fault::Uncertain(place, _) => is_uncertain_at(place, other),
         _ => false,
     }

@@ -7,11 +7,13 @@ ghost use Rattle.protoscip.specs.Headline.{Headline, HeadlineOfTree};
 ghost use Rattle.protoscip.specs.IndexLaws.{OneFault, IndexedHasNoFault, OneIndexing};
 ghost use Rattle.protoscip.specs.IndexLaws.{OneIndexingOfChoices, OneIndexingHasNoFault};
 ghost use Rattle.protoscip.specs.NameLaws.{LawsOfNames};
-ghost use Rattle.protoscip.specs.UseLaws.{EachUseHasATarget};
+ghost use Rattle.protoscip.specs.UseLaws.{EachOptionNameHasParts, EachUseHasATarget};
 
 use crate::dumping::DefaultChoices;
 use index_hooks::Chooses;
-use proto_decl::{names_are_identifiers, prefixes_are_entities, scopes_are_known};
+use proto_decl::{
+    facts_are_filled, names_are_identifiers, prefixes_are_entities, scopes_are_known,
+};
 use proto_link::one_declaration_a_name;
 use scip_build::{Settings, built_has_no_fault, one_build_fault, one_built};
 use scip_model::symbols_name_one_entity_in_packages;
@@ -60,8 +62,16 @@ pub fn each_use_has_a_target()
     prefixes_are_entities();
 }
 
+/// A name in an option that names something has parts: each of its components names an entity.
+pub fn each_option_name_has_parts()
+    ensures { EachOptionNameHasParts }
+{
+    prefixes_are_entities();
+    facts_are_filled();
+}
+
 /// What the headline rests on, whatever was chosen: a full name belongs to one declaration, a symbol to one entity,
-/// and a use that names a type has a target.
+/// a use that names a type has a target, and a name in an option that names something has parts.
 pub fn laws_of_names()
     ensures { LawsOfNames }
 {
@@ -69,14 +79,16 @@ pub fn laws_of_names()
     scopes_are_known();
     one_declaration_a_name();
     each_use_has_a_target();
+    each_option_name_has_parts();
     symbols_name_one_entity_in_packages();
     files_are_without_clash();
 }
 
 /// The headline, for every tree and all settings. The bytes of a tree's index, which `index_tree` writes and a
 /// session answers from, decode to one index only: the one that the grammar of the settings' dialect, the scoping
-/// rules and allowed choices give the tree, with its documents where the settings place them. Each component of a use in
-/// a source names an entity, so it occurs unless what it names isn't kept.
+/// rules and allowed choices give the tree, with its documents where the settings place them. Each component of a use
+/// in a source names an entity, so it occurs unless what it names isn't kept; if names in options are linked, so does
+/// each component of one that names something in a file that counts.
 /// Each occurrence is one of exactly one entity of the tree's files, a declaration's entity is its own, and entities
 /// and symbols are one to one. So each query for references or definitions over these bytes answers exactly the
 /// occurrences of the entity asked about, or those that define it, each once and in the index's order, and nothing

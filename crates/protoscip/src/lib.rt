@@ -49,8 +49,9 @@ pub use findings::{
 };
 pub use indexing::{KeptIndex, index_and_keep, index_and_tell, index_tree};
 pub use laws::{
-    built_has_files, each_use_has_a_target, headline, indexed_has_no_fault, laws_of_names,
-    listed_unless_memory, one_fault, one_indexing, one_listing,
+    built_has_files, each_option_name_has_parts, each_use_has_a_target, headline,
+    indexed_has_no_fault, laws_of_names, listed_unless_memory, one_fault, one_indexing,
+    one_listing,
 };
 pub use lines::{path_line, placed_line, plain_line};
 pub use output::write_text;

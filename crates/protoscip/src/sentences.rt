@@ -96,6 +96,7 @@ pub(crate) fn sentence_in(tree: &Tree, fault: &Fault) -> &'static str
         | Fault::Duplicate(..)
         | Fault::Unresolved(_)
         | Fault::Ambiguous(_)
+        | Fault::OptionGap(_)
         | Fault::Uncertain(..)
         | Fault::TooLarge
         | Fault::Write(_)

@@ -61,11 +61,14 @@ fn is_import(omission: &Omission) -> bool
     matches!(omission, Omission::MissingImport(_))
 }
 
-/// Whether a use has none.
+/// Whether a use has none, or an option.
 fn is_use(omission: &Omission) -> bool
     ensures { result ≡ is_use omission.now }
 {
-    matches!(omission, Omission::Unresolved(_) | Omission::Ambiguous(_))
+    matches!(
+        omission,
+        Omission::Unresolved(_) | Omission::Ambiguous(_) | Omission::OptionGap(_)
+    )
 }
 
 /// How many files are left out.

@@ -1,5 +1,5 @@
-//! The line of what an index lacks: of a file that is left out, of an import or a use without a target, of a use that may
-//! have another one.
+//! The line of what an index lacks: of a file that is left out, of an import, a use or an option without a target, of a
+//! use that may have another one.
 
 ghost use Rattle.std.specs.Prelude.{◌≡◌, ◌++◌, ℕ, List, IfOk, OnOk, string_bytes};
 ghost use Rattle.protoscip.specs.FaultLines.{HasFilesOf};
@@ -16,7 +16,7 @@ use source_tree::Tree;
 use std::alloc::{AllocError, Global};
 
 /// The line, without its end, that reports one thing that an index of the tree lacks: the line of the fault for which
-/// the tree would be refused, with words before the path.
+/// the tree would be refused, with words before the path. Of an option without a target it has the word `Option`.
 ///
 /// The file numbers in the fault have to be below the tree's `file_count`. Those of what `index_tree` and `session`
 /// tell of this tree are; `Fault::from` makes a fault of each. An error means that memory was refused.

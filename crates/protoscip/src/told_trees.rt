@@ -33,16 +33,18 @@ impl DocumentForm for AsNothing {
 }
 
 /// Settings by which faults are skipped.
-fn skipping(alloc: Global, dialect: Dialect) -> Result<Settings, AllocError>
-    ensures { IfOk result (λ settings. settings ≡ skipping dialect) }
+fn skipping(alloc: Global, dialect: Dialect, options: bool) -> Result<Settings, AllocError>
+    ensures { IfOk result (λ settings. settings ≡ skipping dialect options) }
 {
     let mut settings = dump_settings(alloc, dialect)?;
+    settings.options = options;
     settings.faulty = Faulty::Skip;
     Ok(settings)
 }
 
 /// What is told of a tree if faults are skipped: all for which it would be refused, in order of file and place. Its
-/// index is built and let go of, so a run that was refused can say each of its faults.
+/// index is built and let go of, so a run that was refused can say each of its faults. `options` says whether names in
+/// options are linked.
 ///
 /// `Spawn`, `Memory`: that can't be had. File numbers are those of the tree.
 #[tactic(auto, using(crate::proofs::ToldTreeRules::of_tree))]
@@ -51,12 +53,13 @@ pub fn told_of_tree<R: Threads + Wait, C: Chooses + Sync, G: Gate>(
     tree: &Tree,
     chooser: &C,
     dialect: Dialect,
+    options: bool,
 ) -> Result<Sequence<Omission>, Fault>
-    ensures told { IfOk result (IsToldOf (C.allows chooser.now) dialect tree.now) }
+    ensures told { IfOk result (IsToldOf (C.allows chooser.now) dialect options tree.now) }
     ensures files { IfOk result (HaveFilesOf tree.now) }
     ensures stops { IfErr result (MayNotTell run.now.workers) }
 {
-    let settings = skipping(run.alloc, dialect)?;
+    let settings = skipping(run.alloc, dialect, options)?;
     let built = build_in_form(run, tree, chooser, &settings, &AsNothing)?;
     Ok(built.told)
 }

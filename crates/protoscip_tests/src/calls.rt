@@ -51,6 +51,22 @@ impl<'a> Given<'a> {
         }
     }
 
+    /// The same, with proto2 sources read, too, and names in options linked.
+    pub(crate) fn linking(self) -> Given<'a> {
+        let Given {
+            tree,
+            mut settings,
+            registry,
+        } = self;
+        settings.dialect = Dialect::All;
+        settings.options = true;
+        Given {
+            tree,
+            settings,
+            registry,
+        }
+    }
+
     /// The same, with the documents below this folder.
     pub(crate) fn below(self, folder: OwnedText) -> Given<'a> {
         let Given {
@@ -84,6 +100,7 @@ fn settings_of(
         dialect: Dialect::Proto3(CustomOptions::Refuse),
         comments: CommentForm::Raw,
         details: false,
+        options: false,
         faulty,
         duplicates: Duplicates::Refuse,
     })

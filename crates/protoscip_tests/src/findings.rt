@@ -123,8 +123,8 @@ impl<'a, R: Threads + Wait + Abort> Desk<'a, R> {
     pub(crate) fn told(&self, given: &Given) -> Result<Sequence<Omission>, AllocError>
         ensures { IfOk result (HaveFilesOf given.now.tree) }
     {
-        let dialect = given.settings.dialect;
-        match told_of_tree(&self.run(2), &given.tree, given.registry, dialect) {
+        let (dialect, options) = (given.settings.dialect, given.settings.options);
+        match told_of_tree(&self.run(2), &given.tree, given.registry, dialect, options) {
             Ok(told) => Ok(told),
             Err(_) => Err(AllocError),
         }

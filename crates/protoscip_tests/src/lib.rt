@@ -32,6 +32,8 @@ mod lines;
 #[cfg(test)]
 mod names;
 #[cfg(test)]
+mod option_names;
+#[cfg(test)]
 mod placing;
 #[cfg(test)]
 mod plans;

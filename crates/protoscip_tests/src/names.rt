@@ -21,7 +21,7 @@ const OTHER: FilePlace = FilePlace {
 };
 
 /// Faults, their names and their texts.
-const FAULTS: [(Fault, &str, &str); 13] = [
+const FAULTS: [(Fault, &str, &str); 14] = [
     (Fault::Spawn, "Spawn", "a thread could not be started"),
     (Fault::Memory, "Memory", "memory ran out"),
     (
@@ -53,6 +53,11 @@ const FAULTS: [(Fault, &str, &str); 13] = [
         Fault::Ambiguous(PLACE),
         "Ambiguous",
         "a use that names several types, at byte 2 of file 1",
+    ),
+    (
+        Fault::OptionGap(PLACE),
+        "Option",
+        "an option without a target, at byte 2 of file 1",
     ),
     (
         Fault::Uncertain(OTHER, 1),

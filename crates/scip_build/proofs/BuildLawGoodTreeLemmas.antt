@@ -17,6 +17,7 @@ use Rattle.proto_visibility.specs.Kept.{Omissions, IsOmission, AreOmissions, Are
 use Rattle.proto_visibility.specs.Kept.{NothingIsLeftOutOfGoodFiles}
 use Rattle.proto_visibility.proofs.KeptLemmas.{clear_pairs, clear_read}
 use Rattle.proto_lex.specs.declared.position.Encoding.{Encoding}
+use Rattle.proto_parse.specs.dialect.Dialect.{Dialect}
 use Rattle.proto_decl.specs.Values.{Seen}
 use Rattle.proto_visibility.specs.Sees.IsReachable.{seen}
 use Rattle.proto_visibility.specs.Sees.SeesBy.{itself}
@@ -24,7 +25,8 @@ use Rattle.index_hooks.specs.declared.choice.Choice.{Choice}
 use Rattle.scip_build.specs.FactForms.{form_of}
 use Rattle.scip_model.specs.Packages.{Packages, naming}
 use Rattle.scip_model.specs.Conditions.{AllResolve}
-use Rattle.scip_model.specs.Indexes.{IsIndexOf}
+use Rattle.option_link.specs.declared.facts.OptionFacts.{OptionFacts}
+use Rattle.scip_model.specs.Indexes.{IsIndexWith}
 use Rattle.source_tree.specs.Files.{TreeFile}
 use Rattle.scip_build.specs.declared.settings.Settings.{Settings}
 use Rattle.scip_build.specs.declared.faulty.Faulty.{Faulty}
@@ -35,9 +37,11 @@ use Rattle.scip_build.specs.declared.omission.Omission.TheVariants as omitted
 use Rattle.scip_build.specs.Files.{FileContents, ReadFile}
 use Rattle.scip_build.specs.Placing.{index_at}
 use Rattle.scip_build.specs.Linking.{facts_in, linked_file, linked_files, HasFault}
-use Rattle.scip_build.specs.Parsed.{IsUnreadable}
+use Rattle.scip_build.specs.Parsed.{asks_options, IsUnreadable}
 use Rattle.scip_build.specs.ParsedFiles.{AreContentsOf, may_be_unread, HasContents, AreParsedFiles}
-use Rattle.scip_build.specs.Documents.{texts_of, AllAreDecided, IsToldUse, IsUnresolvedAt}
+use Rattle.scip_build.specs.declared.read_form.ReadForm.{ReadForm}
+use Rattle.scip_build.specs.Documents.{asked_if, asked_in, asks_in, texts_of, AllAreDecided, HaveNoGaps, IsGapAt}
+use Rattle.scip_build.specs.Documents.{IsToldUse, IsUnresolvedAt}
 use Rattle.proto_visibility.specs.declared.files.FilePlace.{FilePlace}
 use Rattle.proto_visibility.specs.declared.fault.LinkFault.{LinkFault}
 use Rattle.proto_visibility.specs.declared.fault.LinkFault.TheVariants as link
@@ -45,7 +49,7 @@ use Rattle.proto_link.specs.Targets.{MayRefuseUse}
 use Rattle.scip_build.specs.BuildLaws.{SetTheSame, BuiltWhereNothingIsTold}
 use Rattle.scip_build.specs.Keeping.{linked_of}
 use Rattle.scip_build.specs.Kept.{IsTold, AreKept, NothingIsToldOfAGoodTree}
-use Rattle.scip_build.specs.Kept.IsTold.{of_file, of_import, of_use, of_ambiguous, of_uncertain}
+use Rattle.scip_build.specs.Kept.IsTold.{of_file, of_import, of_use, of_ambiguous, of_uncertain, of_gap}
 use Rattle.scip_build.proofs.ToldUseLemmas.{unresolved_there, ambiguous_there}
 use Rattle.scip_build.proofs.LinkingLemmas.{mapped_at}
 use Rattle.scip_build.proofs.KeptTreeLemmas.{all_linked}
@@ -110,21 +114,26 @@ module _ (all : List ReadFile) (omissions : Omissions) (one_each : length omissi
   all_are : linked_of omissions all ≡ all
   all_are = all_linked omissions all one_each none
 
-  pub none_told : (duplicates : Duplicates) → CanBeLinked duplicates (linked_files all)
-      → AllResolve (linked_files all) → (told : Omission) → IsTold all omissions told → ⊥
-  none_told duplicates can resolve told (of_file n o at left) = none-some o (sym (kept_at n (Some o) at))
-  none_told duplicates can resolve _ (of_import p missing) =
+  pub none_told : (duplicates : Duplicates) (asks : Bool) → CanBeLinked duplicates (linked_files all)
+      → AllResolve (linked_files all) → HaveNoGaps (asked_if asks all) all (linked_files all)
+      → (told : Omission) → IsTold asks all omissions told → ⊥
+  none_told duplicates asks can resolve filled told (of_file n o at left) = none-some o (sym (kept_at n (Some o) at))
+  none_told duplicates asks can resolve filled _ (of_import p missing) =
       let Can : List ReadFile → Type 0 = λ rs. CanBeLinked duplicates (linked_files rs) in
       (subst Can (sym all_are) can).complete p missing
-  none_told duplicates can resolve _ (of_use p is) =
+  none_told duplicates asks can resolve filled _ (of_use p is) =
       let Resolve : List ReadFile → Type 0 = λ rs. AllResolve (linked_files rs) in
       let files = linked_files (linked_of omissions all) in
       all_are_named files (subst Resolve (sym all_are) resolve) p (unresolved_there files p is)
-  none_told duplicates can resolve _ (of_ambiguous p is) =
+  none_told duplicates asks can resolve filled _ (of_ambiguous p is) =
       let Resolve : List ReadFile → Type 0 = λ rs. AllResolve (linked_files rs) in
       let files = linked_files (linked_of omissions all) in
       all_are_named files (subst Resolve (sym all_are) resolve) p (ambiguous_there files p is)
-  none_told duplicates can resolve _ (of_uncertain u n o is numbered out) = none-some o (sym (kept_at n (Some o) out))
+  none_told duplicates asks can resolve filled _ (of_uncertain u n o is numbered out) =
+      none-some o (sym (kept_at n (Some o) out))
+  none_told duplicates asks can resolve filled _ (of_gap p is) =
+      let Gap : List ReadFile → Type 0 = λ rs. IsGapAt (asked_if asks rs) rs (linked_files rs) p in
+      filled p (subst Gap all_are is)
 
 none_listed : (told : List Omission) → ((fault : Omission) → Contains told fault → ⊥) → told ≡ []
 none_listed [] none = refl
@@ -149,34 +158,36 @@ fault_of all number unread =
         (fault, record { parsed_file = parsed_file; numbered = at; unread = is })
 
 -- what is left out is told
-pub left_told : (duplicates : Duplicates) (all : List ReadFile) (omissions : Omissions)
+pub left_told : (duplicates : Duplicates) (asks : Bool) (all : List ReadFile) (omissions : Omissions)
     → AreOmissions duplicates (linked_files all) omissions → (number : ℕ) (omission : Option FileOmission)
     → slice_get omissions number ≡ Some omission
-    → (omission ≡ None) ⊎ ((told : Omission) × IsTold all omissions told)
-left_told duplicates all omissions are number None at = inl refl
-left_told duplicates all omissions are number (Some left_for.Broken) at =
+    → (omission ≡ None) ⊎ ((told : Omission) × IsTold asks all omissions told)
+left_told duplicates asks all omissions are number None at = inl refl
+left_told duplicates asks all omissions are number (Some left_for.Broken) at =
     let fault = fault_of all number (are.each number (Some left_for.Broken) at) in
     inr (omitted.File number fault.0, of_file number left_for.Broken at (fault.0, fault.1, refl))
-left_told duplicates all omissions are number (Some (left_for.Duplicate first second)) at =
+left_told duplicates asks all omissions are number (Some (left_for.Duplicate first second)) at =
     inr (omitted.Duplicate first second, of_file number (left_for.Duplicate first second) at refl)
 
 module _ (good : NothingIsLeftOutOfGoodFiles) where
   pub nothing_is_told : NothingIsToldOfAGoodTree
-  nothing_is_told duplicates all parsed told kept = (where_none, where_good)
+  nothing_is_told duplicates asks all parsed told kept = (where_none, where_good)
     where
       one_each : length kept.omissions ≡ length all
       one_each = kept.left_out.one_each ∙ length-map all linked_file
 
-      where_good : CanBeLinked duplicates (linked_files all) × AllResolve (linked_files all) → told ≡ []
-      where_good (can, resolve) =
+      where_good : CanBeLinked duplicates (linked_files all) × AllResolve (linked_files all)
+          × HaveNoGaps (asked_if asks all) all (linked_files all) → told ≡ []
+      where_good (can, resolve, filled) =
           let clear : HaveClearNames duplicates (linked_files all) =
           record { read = can.read; clear = can.clear } in
           let all_kept = (good duplicates (linked_files all) kept.omissions kept.left_out).1 clear in
           none_listed told (λ fault there.
-          none_told all kept.omissions one_each all_kept duplicates can resolve fault
+          none_told all kept.omissions one_each all_kept duplicates asks can resolve filled fault
           ((kept.told_is.exact fault).0 there))
 
       where_none : told ≡ [] → CanBeLinked duplicates (linked_files all) × AllResolve (linked_files all)
+          × HaveNoGaps (asked_if asks all) all (linked_files all)
       where_none none = (
         record {
           read = clear.read;
@@ -214,9 +225,12 @@ module _ (good : NothingIsLeftOutOfGoodFiles) where
                     refl,
                   ) (λ e. cc)))))
             ],
+        λ place gap.
+            let Gap : List ReadFile → Type 0 = λ rs. IsGapAt (asked_if asks rs) rs (linked_files rs) place in
+            none_is _ (of_gap place (subst Gap (sym all_are) gap)),
       )
         where
-          none_is : (fault : Omission) → IsTold all kept.omissions fault → ⊥
+          none_is : (fault : Omission) → IsTold asks all kept.omissions fault → ⊥
           none_is fault is =
               in_nothing fault (subst (λ (l : List Omission). Contains l fault) none
               ((kept.told_is.exact fault).1 is))
@@ -224,7 +238,7 @@ module _ (good : NothingIsLeftOutOfGoodFiles) where
           all_kept : AreAllKept kept.omissions
           all_kept k d within =
               let at = slice_get-get_or kept.omissions k d within in
-              elim (left_told duplicates all kept.omissions kept.left_out k (get_or kept.omissions k d) at) [
+              elim (left_told duplicates asks all kept.omissions kept.left_out k (get_or kept.omissions k d) at) [
                 | inl is ↦ is
                 | inr told_ ↦ absurd (none_is told_.0 told_.1)
               ]
@@ -255,8 +269,9 @@ module _ (good : NothingIsLeftOutOfGoodFiles) where
         → HasContents settings.faulty settings.dialect (form_of settings) allows number file contents
         → HasContents another.faulty another.dialect (form_of another) allows number file contents
     read_so number file parsed_file at there (Ok contents) is has =
-        subst (λ form. AreContentsOf another.dialect form allows number file.text contents) same.form
-        (subst (λ d. AreContentsOf d (form_of settings) allows number file.text contents) same.dialect has)
+        subst (λ form. AreContentsOf another.dialect form file.is_included allows number file.text contents) same.form
+        (subst (λ d. AreContentsOf d (form_of settings) file.is_included allows number file.text contents) same.dialect
+        has)
     read_so number file parsed_file at there (Err fault) is has = (
       included file.is_included refl,
       subst (λ c. IsUnreadable c file.text fault) same.dialect has.1,
@@ -303,13 +318,16 @@ module _ (good : NothingIsLeftOutOfGoodFiles) where
     read = read_by allows settings another tree same is.all is.read (record { read = can.read; clear = can.clear });
     of_files = record {
       parsed = is.of_files.parsed;
-      kept = subst (λ d. AreKept d is.all is.of_files.parsed built.told) same.duplicates is.of_files.kept;
+      kept = subst (λ d. AreKept d (asks_in another) is.all is.of_files.parsed built.told) same.duplicates
+          (subst (λ asks. AreKept settings.duplicates asks is.all is.of_files.parsed built.told) asks_are
+          is.of_files.kept);
       clear = subst (λ d. HaveClearNames d (linked_files is.of_files.parsed)) same.duplicates is.of_files.clear;
       refused = λ refuse. record {
         none = none;
         all_kept = all_are;
         linked = subst (λ d. CanBeLinked d (linked_files is.all)) same.duplicates can;
         resolved = good_tree.1;
+        filled = subst (λ asks. HaveNoGaps (asked_if asks is.all) is.all (linked_files is.all)) asks_are good_tree.2;
       };
       choices = is.of_files.choices;
       repeated = is.of_files.repeated;
@@ -318,8 +336,15 @@ module _ (good : NothingIsLeftOutOfGoodFiles) where
     };
   }
     where
+      asks_are : asks_in settings ≡ asks_in another
+      asks_are =
+          let To : Dialect → Type 0 = λ d. asks_in settings ≡ asks_options d another.options in
+          subst To same.dialect (ap (λ (form : ReadForm). asks_options settings.dialect form.options) same.form)
+
       good_tree : CanBeLinked settings.duplicates (linked_files is.all) × AllResolve (linked_files is.all)
-      good_tree = (nothing_is_told settings.duplicates is.all is.of_files.parsed built.told is.of_files.kept).0 none
+          × HaveNoGaps (asked_in settings is.all) is.all (linked_files is.all)
+      good_tree = (nothing_is_told settings.duplicates (asks_in settings) is.all is.of_files.parsed built.told
+          is.of_files.kept).0 none
 
       can : CanBeLinked settings.duplicates (linked_files is.all)
       can = good_tree.0
@@ -331,14 +356,19 @@ module _ (good : NothingIsLeftOutOfGoodFiles) where
           ((good settings.duplicates (linked_files is.all) kept.omissions kept.left_out).1
           (record { read = can.read; clear = can.clear }))
 
-      index : IsIndexOf (linked_files is.of_files.parsed) (texts_of is.of_files.parsed) built.choices
-          (naming another.package is.of_files.repeated) another.encoding another.project_root is.plain
+      index : IsIndexWith (asked_in another is.of_files.parsed) (linked_files is.of_files.parsed)
+          (texts_of is.of_files.parsed) built.choices (naming another.package is.of_files.repeated) another.encoding
+          another.project_root is.plain
       index =
           let fs = linked_files is.of_files.parsed in
           let ts = texts_of is.of_files.parsed in
+          let asked = asked_in another is.of_files.parsed in
+          let With : Bool → Type 0 =
+          λ asks. IsIndexWith (asked_if asks is.of_files.parsed) fs ts built.choices
+          (naming settings.package is.of_files.repeated) settings.encoding settings.project_root is.plain in
           let Is : Packages → Encoding → List ℕ → Type 0 =
-          λ ids encoding root. IsIndexOf fs ts built.choices (naming ids is.of_files.repeated) encoding root is.plain
-          in
+          λ ids encoding root. IsIndexWith asked fs ts built.choices (naming ids is.of_files.repeated) encoding root
+          is.plain in
           subst (λ x. Is another.package another.encoding x) same.project_root
           (subst (λ x. Is another.package x settings.project_root) same.encoding
-          (subst (λ x. Is x settings.encoding settings.project_root) same.id is.of_files.index))
+          (subst (λ x. Is x settings.encoding settings.project_root) same.id (subst With asks_are is.of_files.index)))

@@ -87,6 +87,7 @@ built_alike_if_kept allows settings tree built none is = record {
           all_kept = good.all_kept;
           linked = can_too settings.duplicates (linked_files is.all) good.linked;
           resolved = good.resolved;
+          filled = good.filled;
         };
     choices = is.of_files.choices;
     repeated = is.of_files.repeated;

@@ -1,6 +1,6 @@
 -- A tree is built, or has one fault of its files.
 use Rattle.std.proofs.Common.{◌≡◌, ◌≢◌, ◌∙◌, ◌⊎◌, sym, ap, refl, subst, inl, inr, ℕ, ◌<◌, Some, Result, List, [], ◌∷◌}
-use Rattle.std.proofs.Common.{◌++◌, length}
+use Rattle.std.proofs.Common.{◌++◌, length, Option}
 use Rattle.std.specs.List.{All, Contains, slice_get}
 use Rattle.std.proofs.lemmas.Bool.{cases_order}
 use Rattle.std.proofs.lemmas.Option.{same_Some, slice_get_within}
@@ -33,14 +33,18 @@ use Rattle.scip_build.specs.declared.fault.FileFault.{FileFault}
 use Rattle.scip_build.specs.declared.fault.BuildFault.{BuildFault}
 use Rattle.scip_build.specs.declared.fault.BuildFault.TheVariants as build
 use Rattle.scip_build.specs.Parsed.{IsUnreadable}
-use Rattle.scip_build.specs.Files.{FileContents}
+use Rattle.option_link.specs.declared.facts.OptionFacts.{OptionFacts}
+use Rattle.scip_build.specs.Files.{FileContents, ReadFile}
 use Rattle.scip_build.specs.ParsedFiles.{HasContents, AreParsedFiles, IsFirstFaulty}
 use Rattle.scip_build.specs.Linking.{linked_files}
 use Rattle.scip_build.specs.Linking.MayRefuseParsed.{is_unread, is_duplicate, is_missing}
-use Rattle.scip_build.specs.Documents.{IsAmbiguousAt, IsLeastUnresolved}
+use Rattle.scip_build.specs.Documents.{asked_in, asks_in, HaveNoGaps, IsAmbiguousAt, IsLeastGap, IsLeastUnresolved}
 use Rattle.scip_build.specs.Builds.{OfParsed, IsBuildFault}
 use Rattle.scip_build.specs.Laws.{OneFileFault, OneFirstFaulty, OneLinking, NoParsedFilesWhereFaulty}
+use Rattle.scip_build.specs.Laws.{NoFactsWhereUnreadable, OneBesideAFile}
 use Rattle.scip_build.specs.BuildLaws.{cause_of, BuiltHasNoFault, OneBuildFault}
+use Rattle.scip_build.proofs.OptionGapLemmas.{least_too, one_least, reads_of, same_asked}
+use Rattle.scip_build.proofs.ReadAlikeLemmas.{same_known, same_reads}
 use Rattle.scip_build.proofs.ReadyLemmas.{whole_at, have_origins}
 
 in_middle : {X : Type 0} (before : List X) (x : X) (behind : List X) → Contains (before ++ x ∷ behind) x
@@ -137,12 +141,30 @@ module _ (files : List File) where
       absurd (second.1 (subst (IsAmbiguousAt files) same first.1))
   one_reason place other a b same (inr first) (inr second) = first.0 ∙ (ap link.Ambiguous same ∙ sym second.0)
 
-module _ (duplicates : Duplicates) (files : List File) where
+module _ (asked : Option (List OptionFacts)) (parsed : List ReadFile) (files : List File) where
+  -- what has no target, and is refused for it: the first use, or else the first gap of an option
+  abbrev IsLacking : LinkFault → Type 0
+  IsLacking fault = ((place : FilePlace) × IsReasonAt files place fault × IsLeastUnresolved files place)
+      ⊎ ((place : FilePlace) × (fault ≡ link.Unresolved place) × IsLeastGap asked parsed files place)
+
+  one_lacking : (a b : LinkFault) → IsLacking a → IsLacking b → a ≡ b
+  one_lacking a b (inl first) (inl second) =
+      one_reason files first.0 second.0 a b (one_place files first.0 second.0 first.2 second.2) first.1 second.1
+  one_lacking a b (inl first) (inr second) = absurd (all_resolve files second.2.resolved first.0 first.2)
+  one_lacking a b (inr first) (inl second) = absurd (all_resolve files first.2.resolved second.0 second.2)
+  one_lacking a b (inr first) (inr second) =
+      first.1 ∙ (ap link.Unresolved (one_least asked parsed files first.0 second.0 first.2 second.2) ∙ sym second.1)
+
+  none_lacking : AllResolve files → HaveNoGaps asked parsed files → (fault : LinkFault) → IsLacking fault → ⊥
+  none_lacking all filled fault (inl lacks) = all_resolve files all lacks.0 lacks.2
+  none_lacking all filled fault (inr lacks) = filled lacks.0 lacks.2.least.holds
+
+module _ (duplicates : Duplicates) (asked : Option (List OptionFacts)) (parsed : List ReadFile)
+    (files : List File) where
   -- why the files make no index
   abbrev Refuses : LinkFault → Type 0
-  Refuses fault = MayRefuse duplicates files fault
-      ⊎ (CanBeLinked duplicates files × (place : FilePlace) × IsReasonAt files place fault
-      × IsLeastUnresolved files place)
+  Refuses fault =
+      MayRefuse duplicates files fault ⊎ (CanBeLinked duplicates files × IsLacking asked parsed files fault)
 
   linked_is_linked : CanBeLinked duplicates files → (fault : LinkFault) → MayRefuse duplicates files fault
       → fault ≢ link.Memory → ⊥
@@ -158,13 +180,38 @@ module _ (duplicates : Duplicates) (files : List File) where
   one_cause one origins a b (inl first) (inr second) not nor = absurd (linked_is_linked second.0 a first not)
   one_cause one origins a b (inr first) (inl second) not nor = absurd (linked_is_linked first.0 b second nor)
   one_cause one origins a b (inr first) (inr second) not nor =
-      one_reason files first.1 second.1 a b (one_place files first.1 second.1 first.3 second.3) first.2 second.2
+      one_lacking asked parsed files a b first.1 second.1
 
   -- and why they do make one
-  none_refuses : CanBeLinked duplicates files → AllResolve files → (fault : LinkFault) → Refuses fault
-      → fault ≢ link.Memory → ⊥
-  none_refuses can all fault (inl first) not = linked_is_linked can fault first not
-  none_refuses can all fault (inr later) not = all_resolve files all later.1 later.3
+  none_refuses : CanBeLinked duplicates files → AllResolve files → HaveNoGaps asked parsed files → (fault : LinkFault)
+      → Refuses fault → fault ≢ link.Memory → ⊥
+  none_refuses can all filled fault (inl first) not = linked_is_linked can fault first not
+  none_refuses can all filled fault (inr later) not = none_lacking asked parsed files all filled fault later.1
+
+-- the same of files that were read alike
+refuses_too : (duplicates : Duplicates) (asked other : Option (List OptionFacts)) (parsed again : List ReadFile)
+    (files others : List File) → asked ≡ other → reads_of parsed ≡ reads_of again → files ≡ others
+    → (fault : LinkFault) → Refuses duplicates asked parsed files fault → Refuses duplicates other again others fault
+refuses_too duplicates asked other parsed again files others asked_are reads files_are fault (inl is) =
+    inl (subst (λ fs. MayRefuse duplicates fs fault) files_are is)
+refuses_too duplicates asked other parsed again files others asked_are reads files_are fault (inr (can, inl lacks)) =
+    inr (
+      subst (CanBeLinked duplicates) files_are can,
+      inl (
+        lacks.0,
+        subst (λ fs. IsReasonAt fs lacks.0 fault) files_are lacks.1,
+        subst (λ fs. IsLeastUnresolved fs lacks.0) files_are lacks.2,
+      ),
+    )
+refuses_too duplicates asked other parsed again files others asked_are reads files_are fault (inr (can, inr lacks)) =
+    inr (
+      subst (CanBeLinked duplicates) files_are can,
+      inr (
+        lacks.0,
+        lacks.1,
+        least_too asked other parsed again files others asked_are reads files_are lacks.0 lacks.2,
+      ),
+    )
 
 -- a fault's reason: the first source that can't be read, or one of files that were read
 abbrev Reason : Settings → (allows : Seen → Choice → Type 0) → List TreeFile → LinkFault → Type 0
@@ -172,7 +219,7 @@ Reason settings allows tree cause =
     ((number : ℕ) × (fault : FileFault) × (cause ≡ link.Broken number)
     × IsFirstFaulty settings.dialect tree number fault)
     ⊎ OfParsed settings.dialect (form_of settings) allows tree
-    (λ parsed. Refuses settings.duplicates (linked_files parsed) cause)
+    (λ parsed. Refuses settings.duplicates (asked_in settings parsed) parsed (linked_files parsed) cause)
 
 reason : (settings : Settings) (allows : Seen → Choice → Type 0) (tree : List TreeFile) (workers : ℕ)
     (fault : BuildFault) → IsBuildFault allows settings tree workers fault
@@ -187,10 +234,12 @@ reason settings allows tree workers (build.Duplicate first second) (refuse, (par
     not = (refuse, inr (parsed, are, inl is))
 reason settings allows tree workers (build.MissingImport place) (refuse, (parsed, are, is_missing is)) not =
     (refuse, inr (parsed, are, inl is))
-reason settings allows tree workers (build.Unresolved place) (refuse, is) not =
-    (refuse, inr (is.0, is.1, inr (is.2.0, place, inl (refl, is.2.2), is.2.1)))
+reason settings allows tree workers (build.Unresolved place) (refuse, (parsed, are, (can, inl is))) not =
+    (refuse, inr (parsed, are, inr (can, inl (place, inl (refl, is.1), is.0))))
+reason settings allows tree workers (build.Unresolved place) (refuse, (parsed, are, (can, inr gap))) not =
+    (refuse, inr (parsed, are, inr (can, inr (place, refl, gap))))
 reason settings allows tree workers (build.Ambiguous place) (refuse, is) not =
-    (refuse, inr (is.0, is.1, inr (is.2.0, place, inr (refl, is.2.2), is.2.1)))
+    (refuse, inr (is.0, is.1, inr (is.2.0, inl (place, inr (refl, is.2.2), is.2.1))))
 
 -- two faults of a build have one cause
 abbrev OneCause : (allows others : Seen → Choice → Type 0) → Type 0
@@ -199,8 +248,25 @@ OneCause allows others =
     → IsBuildFault allows settings tree workers fault → IsBuildFault others settings tree more other
     → cause_of fault ≢ link.Memory → cause_of other ≢ link.Memory → cause_of fault ≡ cause_of other
 
-module _ (allows others : Seen → Choice → Type 0) (one_linking : OneLinking allows others)
-    (none : NoParsedFilesWhereFaulty allows) (none_others : NoParsedFilesWhereFaulty others) where
+module _ (apart : NoFactsWhereUnreadable) (one_beside : OneBesideAFile) (allows others : Seen → Choice → Type 0)
+    (one_linking : OneLinking allows others) (none : NoParsedFilesWhereFaulty allows)
+    (none_others : NoParsedFilesWhereFaulty others) where
+  -- what refuses one reading of a tree refuses another
+  refuses_again : (settings : Settings) (tree : List TreeFile) (parsed again : List ReadFile)
+      → AreParsedFiles Refuse settings.dialect (form_of settings) allows tree parsed
+      → AreParsedFiles Refuse settings.dialect (form_of settings) others tree again → (fault : LinkFault)
+      → Refuses settings.duplicates (asked_in settings again) again (linked_files again) fault
+      → Refuses settings.duplicates (asked_in settings parsed) parsed (linked_files parsed) fault
+  refuses_again settings tree parsed again are also fault refuses =
+      let files = one_linking Refuse Refuse settings.dialect (form_of settings) tree parsed again are also in
+      let reads = same_reads apart allows others Refuse Refuse settings.dialect (form_of settings) tree parsed again are
+      also in
+      let known = same_known apart allows others Refuse Refuse settings.dialect (form_of settings) tree parsed again are
+      also one_beside in
+      refuses_too settings.duplicates (asked_in settings again) (asked_in settings parsed) again parsed
+      (linked_files again) (linked_files parsed) (sym (same_asked (asks_in settings) parsed again known)) (sym reads)
+      (sym files) fault refuses
+
   pub built_has_no_fault : BuiltHasNoFault allows others
   built_has_no_fault settings tree workers built fault is wrong not =
       let why = reason settings others tree workers fault wrong not in
@@ -210,10 +276,9 @@ module _ (allows others : Seen → Choice → Type 0) (one_linking : OneLinking 
       elim why.1 [
         | inl first ↦ none settings.dialect (form_of settings) tree is.all first.0 first.1 read first.3
         | inr later ↦ (
-            let Here : List File → Type 0 = λ files. Refuses settings.duplicates files (cause_of fault) in
-            let here = subst Here (sym
-            (one_linking Refuse Refuse settings.dialect (form_of settings) tree is.all later.0 read later.1)) later.2 in
-            none_refuses settings.duplicates (linked_files is.all) good.linked good.resolved (cause_of fault) here not)
+            let here = refuses_again settings tree is.all later.0 read later.1 (cause_of fault) later.2 in
+            none_refuses settings.duplicates (asked_in settings is.all) is.all (linked_files is.all) good.linked
+            good.resolved good.filled (cause_of fault) here not)
       ]
 
   cause_is_one : OneFirstFaulty → OneRefusal → OneCause allows others
@@ -226,11 +291,10 @@ module _ (allows others : Seen → Choice → Type 0) (one_linking : OneLinking 
       both (inl a) (inr b) = absurd (none_others settings.dialect (form_of settings) tree b.0 a.0 a.1 b.1 a.3)
       both (inr a) (inl b) = absurd (none settings.dialect (form_of settings) tree a.0 b.0 b.1 a.1 b.3)
       both (inr a) (inr b) =
-          let Here : List File → Type 0 = λ files. Refuses settings.duplicates files (cause_of other) in
-          let here = subst Here
-          (sym (one_linking Refuse Refuse settings.dialect (form_of settings) tree a.0 b.0 a.1 b.1)) b.2 in
+          let here = refuses_again settings tree a.0 b.0 a.1 b.1 (cause_of other) b.2 in
           let origins = have_origins a.0 (whole_at Refuse settings.dialect (form_of settings) allows tree a.0 a.1) in
-          one_cause settings.duplicates (linked_files a.0) one_refusal origins (cause_of fault) (cause_of other) a.2
+          one_cause settings.duplicates (asked_in settings a.0) a.0 (linked_files a.0) one_refusal origins
+          (cause_of fault) (cause_of other) a.2
           here not nor
 
 -- the file that is named can't be read, for the fault that is told
@@ -328,10 +392,11 @@ module _ (one : OneFileFault) (allows others : Seen → Choice → Type 0) (sett
     ]
   ]
 
-module _ (allows others : Seen → Choice → Type 0) (one_linking : OneLinking allows others)
-    (none : NoParsedFilesWhereFaulty allows) (none_others : NoParsedFilesWhereFaulty others) where
+module _ (apart : NoFactsWhereUnreadable) (one_beside : OneBesideAFile) (allows others : Seen → Choice → Type 0)
+    (one_linking : OneLinking allows others) (none : NoParsedFilesWhereFaulty allows)
+    (none_others : NoParsedFilesWhereFaulty others) where
   pub one_build_fault : OneFirstFaulty → OneRefusal → OneFileFault → OneBuildFault allows others
   one_build_fault one_first one_refusal one settings tree workers more fault other is also not nor =
       of_one_cause one allows others settings tree workers more fault other is also not nor
-      (cause_is_one allows others one_linking none none_others one_first one_refusal settings tree workers more fault
-      other is also not nor)
+      (cause_is_one apart one_beside allows others one_linking none none_others one_first one_refusal settings tree
+      workers more fault other is also not nor)

@@ -1,6 +1,6 @@
 -- What is built by the same choices is one, and where one choice alone may come for what is seen, the choices are.
-use Rattle.std.proofs.Common.{◌≡◌, ◌∙◌, ℕ, ◌<◌, List, [], ◌∷◌, ◌++◌, length, map, Some, Result, Ok, Err, ap}
-use Rattle.std.proofs.Common.{sym}
+use Rattle.std.proofs.Common.{◌≡◌, ◌∙◌, ℕ, ◌<◌, Bool, List, [], ◌∷◌, ◌++◌, length, map, Option, Some, Result, Ok, Err}
+use Rattle.std.proofs.Common.{ap, sym}
 use Rattle.std.proofs.Common.{refl, subst}
 use Rattle.std.specs.declared.cmp.Ordering.{Ordering}
 use Rattle.std.specs.declared.cmp.Ordering.TheVariants.{Less}
@@ -11,7 +11,8 @@ use Rattle.std.specs.Option.{option_map}
 use Rattle.std.proofs.lemmas.List.{length-map, map-append, map-id}
 use Rattle.std.proofs.lemmas.Option.{same_Some, slice_get-map, slice_get_within}
 use Rattle.basics.proofs.ListLemmas.{contains_map, item_at}
-use Rattle.proto_decl.specs.declared.form.FactForm.{FactForm}
+use Rattle.scip_build.specs.declared.read_form.ReadForm.{ReadForm}
+use Rattle.option_link.specs.declared.facts.OptionFacts.{OptionFacts}
 use Rattle.proto_parse.specs.dialect.Dialect.{Dialect}
 use Rattle.proto_decl.specs.Facts.{Facts}
 use Rattle.proto_decl.specs.Values.{Seen}
@@ -30,7 +31,7 @@ use Rattle.scip_model.specs.Packages.{Packages, naming}
 use Rattle.scip_model.specs.Repeated.{AreRepeated}
 use Rattle.index_hooks.specs.declared.choice.Choice.{Choice}
 use Rattle.scip_model.specs.Chosen.{Chosen}
-use Rattle.scip_model.specs.Indexes.{IsIndexOf}
+use Rattle.scip_model.specs.Indexes.{IsIndexWith}
 use Rattle.scip_model.specs.Laws.{OneIndex}
 use Rattle.source_tree.specs.Files.{TreeFile}
 use Rattle.source_tree.proofs.TreeLemmas.{mapped_from}
@@ -40,22 +41,25 @@ use Rattle.scip_build.specs.declared.faulty.Faulty.{Faulty}
 use Rattle.scip_build.specs.declared.fault.FileFault.{FileFault}
 use Rattle.scip_build.specs.declared.omission.Omission.{Omission}
 use Rattle.scip_build.specs.declared.omission.Omission.TheVariants as omitted
-use Rattle.scip_build.specs.Parsed.{IsUnreadable}
+use Rattle.scip_build.specs.Parsed.{asks_options, IsUnreadable}
 use Rattle.scip_build.specs.Files.{FileContents, ReadFile}
 use Rattle.scip_build.specs.ParsedFiles.{seen_of, AreChosen, AreContentsOf, HasContents, AreParsedFiles}
 use Rattle.scip_build.specs.Placing.{index_at}
 use Rattle.scip_build.specs.Linking.{linked_file, linked_files, choices_in, choices_of, HasFault}
-use Rattle.scip_build.specs.Documents.{text_in, text_of, texts_of, IsToldUse}
+use Rattle.scip_build.specs.Documents.{asked_if, asked_in, asks_in, beside_in, known_in, text_of, texts_of, IsGapAt}
+use Rattle.scip_build.specs.Documents.{IsToldUse}
 use Rattle.proto_link.specs.Uncertain.{IsUncertain}
 use Rattle.scip_build.specs.Keeping.{as_left_out, linked_numbers, linked_of}
 use Rattle.scip_build.specs.Kept.{IsLeftFor, place_among_all, IsTold, Key, told_key, key_cmp}
-use Rattle.scip_build.specs.Kept.IsTold.{of_file, of_import, of_use, of_ambiguous, of_uncertain}
+use Rattle.scip_build.specs.Kept.IsTold.{of_file, of_import, of_use, of_ambiguous, of_uncertain, of_gap}
 use Rattle.proto_visibility.specs.declared.fault.LinkFault.TheVariants as link_fault
 use Rattle.scip_build.specs.Builds.{IsBuilt}
-use Rattle.scip_build.specs.Laws.{OneListOfFacts, NoFactsWhereUnreadable, OneFileFault}
+use Rattle.scip_build.specs.Laws.{OneListOfFacts, OneBesideAFile, NoFactsWhereUnreadable, OneFileFault}
 use Rattle.scip_build.specs.BuildLaws.{SetTheSame, AllowOne, OneBuiltOfChoices, OneBuilt}
 use Rattle.scip_model.proofs.IndexSortLemmas.{one-ascending}
 use Rattle.scip_build.proofs.LinkingLemmas.{same_mapped, one_linking}
+use Rattle.scip_build.proofs.OptionGapLemmas.{gap_too, read_in, reads_of, same_asked}
+use Rattle.scip_build.proofs.ReadAlikeLemmas.{contents_at, same_in, same_known, same_reads, same_texts}
 use Rattle.scip_build.proofs.ReadyLemmas.{whole_at, have_origins}
 use Rattle.scip_build.proofs.SameNamesLemmas.{same_index, same_names}
 use Rattle.scip_build.proofs.KeptTreeLemmas.{map_kept, map_left}
@@ -63,7 +67,7 @@ use Rattle.scip_build.proofs.KeptToldLemmas.{key_total, of_same, one_told}
 use Rattle.scip_build.proofs.BuildLawGoodTreeLemmas.{fault_of}
 
 -- a file with a fault can't be read
-unreadable : (faulty : Faulty) (dialect : Dialect) (form : FactForm) (allows : Seen → Choice → Type 0)
+unreadable : (faulty : Faulty) (dialect : Dialect) (form : ReadForm) (allows : Seen → Choice → Type 0)
     (tree : List TreeFile) (parsed : List ReadFile) → AreParsedFiles faulty dialect form allows tree parsed
     → (number : ℕ) (fault : FileFault)
     → HasFault parsed number fault
@@ -91,27 +95,14 @@ same_choices allows others agree (d ∷ ds) (x ∷ xs) (y ∷ ys) chosen also =
     λ i. here i ∷ more i
 
 module _ (apart : NoFactsWhereUnreadable) (allows others : Seen → Choice → Type 0) (faulty another : Faulty)
-    (dialect : Dialect) (form : FactForm) where
-  -- what is the same of contents, and of any two faults, is of one file read twice
-  same_in : {Y : Type 0} (f : Result FileContents FileFault → Y) (number : ℕ) (file : TreeFile)
-      → ((a b : FileContents) → AreContentsOf dialect form allows number file.text a
-      → AreContentsOf dialect form others number file.text b → f (Ok a) ≡ f (Ok b))
-      → ((fault other : FileFault) → f (Err fault) ≡ f (Err other))
-      → (a b : Result FileContents FileFault)
-      → HasContents faulty dialect form allows number file a → HasContents another dialect form others number file b
-      → f a ≡ f b
-  same_in f number file read unread (Ok a) (Ok b) has also = read a b has also
-  same_in f number file read unread (Ok a) (Err fault) has also =
-      absurd (apart dialect form number file.text a.facts fault has.1.facts_in also.1)
-  same_in f number file read unread (Err fault) (Ok b) has also =
-      absurd (apart dialect form number file.text b.facts fault also.1.facts_in has.1)
-  same_in f number file read unread (Err fault) (Err other) has also = unread fault other
-
+    (dialect : Dialect) (form : ReadForm) where
   chosen_alike : OneListOfFacts → AllowOne allows others → (number : ℕ) (file : TreeFile) (a b : FileContents)
-      → AreContentsOf dialect form allows number file.text a → AreContentsOf dialect form others number file.text b
+      → AreContentsOf dialect form file.is_included allows number file.text a
+      → AreContentsOf dialect form file.is_included others number file.text b
       → a.choices ≡ b.choices
   chosen_alike one agree number file a b has also =
-      let facts : a.facts ≡ b.facts = one dialect form number file.text a.facts b.facts has.1.facts_in also.1.facts_in
+      let facts : a.facts ≡ b.facts =
+      one dialect form.facts number file.text a.facts b.facts has.1.facts_in also.1.facts_in
       in
       let Of : Facts → Type 0 = λ f. AreChosen others f.declarations b.choices in
       same_choices allows others agree a.facts.declarations a.choices b.choices has.1.chosen
@@ -120,24 +111,12 @@ module _ (apart : NoFactsWhereUnreadable) (allows others : Seen → Choice → T
   module _ (tree : List TreeFile) (parsed again : List ReadFile)
       (are : AreParsedFiles faulty dialect form allows tree parsed)
       (also : AreParsedFiles another dialect form others tree again) where
-    -- both read the same file there
-    contents_at : (k : ℕ) (a b : ReadFile) → slice_get parsed k ≡ Some a → slice_get again k ≡ Some b
-        → (file : TreeFile) × HasContents faulty dialect form allows k file a.contents
-        × HasContents another dialect form others k file b.contents
-    contents_at k a b at and =
-        let within : k < length tree = rw (sym are.one_each) (slice_get_within parsed k a at) in
-        let there = item_at tree k within in
-        (there.0, (are.each k there.0 a there.1 at).contents, (also.each k there.0 b there.1 and).contents)
-
-    same_texts : texts_of parsed ≡ texts_of again
-    same_texts = same_mapped text_of parsed again (are.one_each ∙ sym also.one_each)
-        (λ k a b at and. let has = contents_at k a b at and in
-        same_in text_in k has.0 (λ x y is too. is.0 ∙ sym too.0) (λ x y. refl) a.contents b.contents has.1 has.2)
-
     same_lists : OneListOfFacts → AllowOne allows others → map choices_of parsed ≡ map choices_of again
     same_lists one agree = same_mapped choices_of parsed again (are.one_each ∙ sym also.one_each)
-        (λ k a b at and. let has = contents_at k a b at and in
-        same_in choices_in k has.0 (chosen_alike one agree k has.0) (λ x y. refl) a.contents b.contents has.1 has.2)
+        (λ k a b at and. let has = contents_at apart allows others faulty another dialect form tree parsed again are
+        also k a b at and in
+        same_in apart allows others faulty another dialect form choices_in k has.0 (chosen_alike one agree k has.0)
+        (λ x y. refl) a.contents b.contents has.1 has.2)
 
 -- what is said of files that are left out is said of them as they were
 abbrev IsSaidOfLeft : {Y : Type 0} → (ReadFile → Y) → (Y → Y) → Type 0
@@ -168,8 +147,9 @@ kept_same f g said all again parsed others a b first second omissions whole =
     ∙ (ap (said_of g a) whole ∙ (ap (λ o. said_of g o (map f again)) omissions
     ∙ (sym (said_of_linked f g said b again) ∙ ap (map f) (sym second)))))
 
-module _ (one : OneListOfFacts) (apart : NoFactsWhereUnreadable) (one_fault : OneFileFault) (one_list : OneOmissionList)
-    (one_index : OneIndex) (allows others : Seen → Choice → Type 0)
+module _ (one : OneListOfFacts) (one_beside : OneBesideAFile) (apart : NoFactsWhereUnreadable)
+    (one_fault : OneFileFault) (one_list : OneOmissionList) (one_index : OneIndex)
+    (allows others : Seen → Choice → Type 0)
     (settings another : Settings) (tree : List TreeFile) (built other : Built)
     (same : SetTheSame settings another) (is : IsBuilt allows settings tree built)
     (also : IsBuilt others another tree other) where
@@ -188,7 +168,7 @@ module _ (one : OneListOfFacts) (apart : NoFactsWhereUnreadable) (one_fault : On
   read_again : AreParsedFiles another.faulty settings.dialect (form_of settings) others tree again
   read_again =
       let Read : Dialect → Type 0 = λ d. AreParsedFiles another.faulty d (form_of another) others tree again in
-      let In : FactForm → Type 0 = λ form. AreParsedFiles another.faulty settings.dialect form others tree again in
+      let In : ReadForm → Type 0 = λ form. AreParsedFiles another.faulty settings.dialect form others tree again in
       subst In (sym same.form) (subst Read (sym same.dialect) also.read)
 
   all_linked : linked_files all ≡ linked_files again
@@ -223,6 +203,25 @@ module _ (one : OneListOfFacts) (apart : NoFactsWhereUnreadable) (one_fault : On
       (same_texts apart allows others settings.faulty another.faulty settings.dialect (form_of settings) tree all again
       is.read read_again)
 
+  -- what is asked of options is the same of both
+  asks_are : asks_in settings ≡ asks_in another
+  asks_are =
+      let To : Dialect → Type 0 = λ d. asks_in settings ≡ asks_options d another.options in
+      subst To same.dialect (ap (λ (form : ReadForm). asks_options settings.dialect form.options) same.form)
+
+  reads_are : reads_of all ≡ reads_of again
+  reads_are = same_reads apart allows others settings.faulty another.faulty settings.dialect (form_of settings) tree all
+      again is.read read_again
+
+  known_are : known_in all ≡ known_in again
+  known_are = same_known apart allows others settings.faulty another.faulty settings.dialect (form_of settings) tree all
+      again is.read read_again one_beside
+
+  asked_are : asked_in settings is.of_files.parsed ≡ asked_in another also.of_files.parsed
+  asked_are = same_asked (asks_in settings) is.of_files.parsed also.of_files.parsed
+      (kept_alike (λ parsed_file. beside_in parsed_file.contents) (λ known. known) (λ parsed_file. refl) known_are)
+      ∙ ap (λ (asks : Bool). asked_if asks also.of_files.parsed) asks_are
+
   -- what is repeated of the files of the one is what is of those of the other
   names_are : AreRepeated (linked_files is.of_files.parsed) also.of_files.repeated
   names_are = subst (λ fs. AreRepeated fs also.of_files.repeated) (sym same_files) also.of_files.are_repeated
@@ -230,13 +229,17 @@ module _ (one : OneListOfFacts) (apart : NoFactsWhereUnreadable) (one_fault : On
   plain_is : built.choices ≡ other.choices → is.plain ≡ also.plain
   plain_is choices =
       let names = also.of_files.repeated in
+      let asked = asked_in settings is.of_files.parsed in
+      let With : Option (List OptionFacts) → Type 0 =
+      λ known. IsIndexWith known (linked_files also.of_files.parsed) (texts_of also.of_files.parsed) other.choices
+      (naming another.package names) another.encoding another.project_root also.plain in
       let Is : List File → List (List ℕ) → Chosen → Packages → Encoding → List ℕ → Type 0 =
-      λ fs ts chosen ids encoding root. IsIndexOf fs ts chosen (naming ids names) encoding root also.plain in
+      λ fs ts chosen ids encoding root. IsIndexWith asked fs ts chosen (naming ids names) encoding root also.plain in
       let files = linked_files is.of_files.parsed in
       let texts = texts_of is.of_files.parsed in
       let lines = texts_of also.of_files.parsed in
       let f = subst (λ x. Is x lines other.choices another.package another.encoding another.project_root)
-      (sym same_files) also.of_files.index in
+      (sym same_files) (subst With (sym asked_are) also.of_files.index) in
       let t = subst (λ x. Is files x other.choices another.package another.encoding another.project_root)
       (sym texts_are) f in
       let c = subst (λ x. Is files texts x another.package another.encoding another.project_root) (sym choices) t
@@ -245,11 +248,11 @@ module _ (one : OneListOfFacts) (apart : NoFactsWhereUnreadable) (one_fault : On
       let e = subst (λ x. Is files texts built.choices settings.package x another.project_root) (sym same.encoding) p in
       let r = subst (λ x. Is files texts built.choices settings.package settings.encoding x) (sym same.project_root) e
       in
-      let n = same_index settings.package files texts built.choices settings.encoding names is.of_files.repeated
+      let n = same_index asked settings.package files texts built.choices settings.encoding names is.of_files.repeated
       (same_names files names is.of_files.repeated names_are is.of_files.are_repeated) settings.project_root
       also.plain r
       in
-      one_index files texts built.choices (naming settings.package is.of_files.repeated) settings.encoding
+      one_index asked files texts built.choices (naming settings.package is.of_files.repeated) settings.encoding
       settings.project_root is.plain also.plain is.of_files.index n
 
   index_is : built.choices ≡ other.choices → built.index ≡ other.index
@@ -272,7 +275,7 @@ module _ (one : OneListOfFacts) (apart : NoFactsWhereUnreadable) (one_fault : On
 
   of_left : (number : ℕ) (omission : FileOmission) (told : Omission) → slice_get b number ≡ Some (Some omission)
       → IsOmission another.duplicates (linked_files again) b number (Some omission) → IsLeftFor all number omission told
-      → IsTold again b told
+      → IsTold (asks_in another) again b told
   of_left number left_for.Broken told at out left =
       let fault = fault_of again number out in
       let here = subst (HasFault again number) (sym (same_unread number left.0 fault.0 left.1 fault.1)) fault.1 in
@@ -284,8 +287,18 @@ module _ (one : OneListOfFacts) (apart : NoFactsWhereUnreadable) (one_fault : On
   kept_files = kept_same linked_file link.as_left_out (λ parsed_file. refl) all again (linked_of a all)
       (linked_of b again) a b refl refl same_omissions all_linked
 
+  kept_reads : reads_of (linked_of a all) ≡ reads_of (linked_of b again)
+  kept_reads = kept_same (λ parsed_file. read_in parsed_file.contents) (λ read. read) (λ parsed_file. refl) all again
+      (linked_of a all) (linked_of b again) a b refl refl same_omissions reads_are
+
+  kept_asked : asked_if (asks_in settings) (linked_of a all) ≡ asked_if (asks_in another) (linked_of b again)
+  kept_asked = same_asked (asks_in settings) (linked_of a all) (linked_of b again)
+      (kept_same (λ parsed_file. beside_in parsed_file.contents) (λ known. known) (λ parsed_file. refl) all again
+      (linked_of a all) (linked_of b again) a b refl refl same_omissions known_are)
+      ∙ ap (λ (asks : Bool). asked_if asks (linked_of b again)) asks_are
+
   -- what is told of one is told of the other
-  told_too : (told : Omission) → IsTold all a told → IsTold again b told
+  told_too : (told : Omission) → IsTold (asks_in settings) all a told → IsTold (asks_in another) again b told
   told_too told (of_file n o at left) =
       let there : slice_get b n ≡ Some (Some o) =
       subst (λ (x : Omissions). slice_get x n ≡ Some (Some o)) same_omissions at in
@@ -293,15 +306,15 @@ module _ (one : OneListOfFacts) (apart : NoFactsWhereUnreadable) (one_fault : On
   told_too _ (of_import p missing) =
       let place : place_among_all a p ≡ place_among_all b p = ap (λ o. place_among_all o p) same_omissions in
       let missing_too = subst (λ fs. IsMissing fs p) kept_files missing in
-      subst (IsTold again b) (ap omitted.MissingImport (sym place)) (of_import p missing_too)
+      subst (IsTold (asks_in another) again b) (ap omitted.MissingImport (sym place)) (of_import p missing_too)
   told_too _ (of_use p is_use) =
       let place : place_among_all a p ≡ place_among_all b p = ap (λ o. place_among_all o p) same_omissions in
       let use_too = subst (λ fs. IsToldUse fs p (link_fault.Unresolved p)) kept_files is_use in
-      subst (IsTold again b) (ap omitted.Unresolved (sym place)) (of_use p use_too)
+      subst (IsTold (asks_in another) again b) (ap omitted.Unresolved (sym place)) (of_use p use_too)
   told_too _ (of_ambiguous p is_use) =
       let place : place_among_all a p ≡ place_among_all b p = ap (λ o. place_among_all o p) same_omissions in
       let use_too = subst (λ fs. IsToldUse fs p (link_fault.Ambiguous p)) kept_files is_use in
-      subst (IsTold again b) (ap omitted.Ambiguous (sym place)) (of_ambiguous p use_too)
+      subst (IsTold (asks_in another) again b) (ap omitted.Ambiguous (sym place)) (of_ambiguous p use_too)
   told_too _ (of_uncertain u n o is_use numbered out) =
       let place : place_among_all a u.place ≡ place_among_all b u.place =
       ap (λ x. place_among_all x u.place) same_omissions in
@@ -309,8 +322,14 @@ module _ (one : OneListOfFacts) (apart : NoFactsWhereUnreadable) (one_fault : On
       let numbered_too =
       subst (λ (x : Omissions). slice_get (linked_numbers x) u.behind ≡ Some n) same_omissions numbered in
       let out_too = subst (λ (x : Omissions). slice_get x n ≡ Some (Some o)) same_omissions out in
-      subst (IsTold again b) (ap (λ p. omitted.Uncertain p n) (sym place))
+      subst (IsTold (asks_in another) again b) (ap (λ p. omitted.Uncertain p n) (sym place))
       (of_uncertain u n o use_too numbered_too out_too)
+  told_too _ (of_gap p is_gap) =
+      let place : place_among_all a p ≡ place_among_all b p = ap (λ o. place_among_all o p) same_omissions in
+      subst (IsTold (asks_in another) again b) (ap omitted.OptionGap (sym place))
+      (of_gap p (gap_too (asked_if (asks_in settings) (linked_of a all))
+      (asked_if (asks_in another) (linked_of b again)) (linked_of a all) (linked_of b again) (linked_files (linked_of a all)) (linked_files (linked_of b again))
+      kept_asked kept_reads kept_files p is_gap))
 
   keys_there : (key : Key) → Contains (map told_key built.told) key → Contains (map told_key other.told) key
   keys_there key there =
@@ -342,23 +361,24 @@ set_the_same settings another same = record {
   duplicates = sym same.duplicates;
 }
 
-module _ (one : OneListOfFacts) (apart : NoFactsWhereUnreadable) (one_fault : OneFileFault) (one_list : OneOmissionList)
-    (one_index : OneIndex) (allows others : Seen → Choice → Type 0) where
+module _ (one : OneListOfFacts) (one_beside : OneBesideAFile) (apart : NoFactsWhereUnreadable)
+    (one_fault : OneFileFault) (one_list : OneOmissionList) (one_index : OneIndex)
+    (allows others : Seen → Choice → Type 0) where
   pub one_built_of_choices : OneBuiltOfChoices allows others
   one_built_of_choices settings another tree built other same choices is also =
       λ i. record { index = index i; choices = choices i; told = told i }
     where
       index : built.index ≡ other.index
-      index = index_is one apart one_fault one_list one_index allows others settings another tree built other same is
-          also choices
+      index = index_is one one_beside apart one_fault one_list one_index allows others settings another tree built
+          other same is also choices
 
       keys : map told_key built.told ≡ map told_key other.told
       keys = one-ascending key_total (map told_key built.told) (map told_key other.told)
           (ascends_mapped told_key key_cmp built.told is.of_files.kept.told_is.ascends)
           (ascends_mapped told_key key_cmp other.told also.of_files.kept.told_is.ascends)
-          (keys_there one apart one_fault one_list one_index allows others settings another tree built other same
-          is also)
-          (keys_there one apart one_fault one_list one_index others allows another settings tree other built
+          (keys_there one one_beside apart one_fault one_list one_index allows others settings another tree built other
+          same is also)
+          (keys_there one one_beside apart one_fault one_list one_index others allows another settings tree other built
           (set_the_same settings another same) also is)
 
       -- what is at one place of the two lists is one
@@ -373,9 +393,10 @@ module _ (one : OneListOfFacts) (apart : NoFactsWhereUnreadable) (one_fault : On
           (sym key_x ∙ (ap (λ (l : List Key). slice_get l k) keys ∙ key_y)) in
           let told_x = (is.of_files.kept.told_is.exact x).0 (contained built.told k x at) in
           let told_y = (also.of_files.kept.told_is.exact y).0 (contained other.told k y and) in
-          let too = told_too one apart one_fault one_list one_index allows others settings another tree built
+          let too = told_too one one_beside apart one_fault one_list one_index allows others settings another tree built
           other same is also x told_x in
-          one_told another.duplicates also.all also.of_files.kept.omissions also.of_files.kept.left_out x y too told_y
+          one_told another.duplicates (asks_in another) also.all also.of_files.kept.omissions
+          also.of_files.kept.left_out x y too told_y
           (of_same (told_key x) (told_key y) key)
 
       count : length built.told ≡ length other.told
@@ -387,6 +408,6 @@ module _ (one : OneListOfFacts) (apart : NoFactsWhereUnreadable) (one_fault : On
 
   pub one_built : OneBuilt allows others
   one_built settings another tree built other agree same is also =
-      let choices = choices_are one apart one_fault one_list one_index allows others settings another tree built other
-      same is also agree in
+      let choices = choices_are one one_beside apart one_fault one_list one_index allows others settings another tree
+      built other same is also agree in
       one_built_of_choices settings another tree built other same choices is also

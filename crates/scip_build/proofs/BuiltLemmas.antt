@@ -28,7 +28,7 @@ use Rattle.scip_build.specs.Placing.{document_at, index_at, kept_at}
 use Rattle.scip_build.specs.ParsedFiles.{AreParsedFiles}
 use Rattle.scip_build.specs.Keeping.{linked_of}
 use Rattle.scip_build.specs.Ready.{AreOfTree, ArePresent}
-use Rattle.scip_build.specs.Documents.{IsUnresolvedAt}
+use Rattle.scip_build.specs.Documents.{asked_if, asks_in, IsGapAt, IsUnresolvedAt}
 use Rattle.scip_build.specs.Kept.{told_cmp, AreKept}
 use Rattle.scip_build.specs.Telling.{AreInOrder, all_told, AreKeptFiles, AreUncertainUses, AreUseFaults}
 use Rattle.proto_link.specs.declared.uncertain_use.UncertainUse.{UncertainUse}
@@ -38,6 +38,7 @@ use Rattle.scip_build.proofs.BuildsRefusalLemmas.{not_both}
 use Rattle.scip_build.proofs.KeptTreeLemmas.{linked_is, linked_tree, all_linked}
 use Rattle.scip_build.proofs.KeptUncertainLemmas.{behind_left}
 use Rattle.scip_build.proofs.KeptToldLemmas.{is_told, told_is, own_keys}
+use Rattle.scip_build.proofs.KeptLemmas.{filled_of}
 use Rattle.scip_build.proofs.BuildLawGoodTreeLemmas.{all_kept, good_files_are_kept, are_all_kept, none_told}
 
 none_ascends : IsStrictlySortedBy told_cmp []
@@ -57,8 +58,12 @@ whole_built {Out} Is all settings made told refuse none of =
     let one_each : length omissions ≡ length all =
     (good_files_are_kept settings.duplicates files clear).one_each ∙ length-map all linked_file in
     let resolved = (in_form.made.refused refuse).0 in
-    let nothing = none_told all omissions one_each (are_all_kept files) settings.duplicates of.linked resolved in
-    let kept : AreKept settings.duplicates all all [] = record {
+    let asks = asks_in settings in
+    let filled = filled_of (asked_if asks all) all files made.option_gaps in_form.made.gaps
+    (of.made_of.filled refuse) in
+    let nothing = none_told all omissions one_each (are_all_kept files) settings.duplicates asks of.linked resolved
+    filled in
+    let kept : AreKept settings.duplicates asks all all [] = record {
       omissions = omissions;
       left_out = good_files_are_kept settings.duplicates files clear;
       kept = sym (all_linked omissions all one_each (are_all_kept files));
@@ -72,9 +77,15 @@ whole_built {Out} Is all settings made told refuse none of =
       index = in_form.index;
       built = record {
         parsed = all;
-        kept = subst (AreKept settings.duplicates all all) (sym none) kept;
+        kept = subst (AreKept settings.duplicates asks all all) (sym none) kept;
         clear = clear;
-        refused = λ _. record { none = none; all_kept = refl; linked = of.linked; resolved = resolved };
+        refused = λ _. record {
+          none = none;
+          all_kept = refl;
+          linked = of.linked;
+          resolved = resolved;
+          filled = filled;
+        };
         choices = of.made_of.choices;
         repeated = of.made_of.repeated;
         are_repeated = of.made_of.are_repeated;
@@ -107,7 +118,8 @@ pub kept_built : {Out : Type 0} (Is : Document → Out → Type 0) (all parsed :
     (faults : List LinkFault) (uncertain : List UncertainUse) → ArePresent all → settings.faulty ≡ Skip → (of_files : AreKeptFiles settings.duplicates all parsed numbers left)
     → IsMadeOf Is parsed settings made → AreMissing (linked_files parsed) missing
     → AreUseFaults (linked_files parsed) made.unresolved_uses faults
-    → AreUncertainUses (linked_files parsed) uncertain → AreInOrder (all_told left numbers missing faults uncertain) once
+    → AreUncertainUses (linked_files parsed) uncertain
+    → AreInOrder (all_told left numbers missing faults uncertain made.option_gaps) once
     → IsBuiltOfInForm Is all settings made.choices once made.parts
 kept_built Is all parsed settings made numbers left once missing faults uncertain present skip kept of missing_are
     faults_are uncertain_are order =
@@ -116,17 +128,21 @@ kept_built Is all parsed settings made numbers left once missing faults uncertai
     let Gaps : List ReadFile → Type 0 = λ rs. (place : FilePlace)
     → Contains made.unresolved_uses place ↔ IsUnresolvedAt (linked_files rs) place in
     let unresolved_too = subst Gaps kept.kept of.in_form.made.unresolved in
+    let asks = asks_in settings in
+    let Gaps_of : List ReadFile → Type 0 = λ rs. (place : FilePlace)
+    → Contains made.option_gaps place ↔ IsGapAt (asked_if asks rs) rs (linked_files rs) place in
+    let gaps_too = subst Gaps_of kept.kept of.in_form.made.gaps in
     let faults_too = subst (λ (rs : List ReadFile). AreUseFaults (linked_files rs) made.unresolved_uses faults) kept.kept
     faults_are in
     let uncertain_too = subst (λ (rs : List ReadFile). AreUncertainUses (linked_files rs) uncertain) kept.kept
     uncertain_are in
-    let order_too = subst (λ ns. AreInOrder (all_told left ns missing faults uncertain) once)
+    let order_too = subst (λ ns. AreInOrder (all_told left ns missing faults uncertain made.option_gaps) once)
     kept.numbers_are order in
     let size : length omissions ≡ length all = kept.left_out.one_each ∙ length-map all linked_file in
     let read = subst (λ (rs : List ReadFile). NoneBroken (linked_files rs)) kept.kept of.clear.read in
     let behind = behind_left all omissions size present read in
-    let own = own_keys settings.duplicates all omissions kept.left_out left missing made.unresolved_uses faults uncertain
-    kept.left_are missing_too unresolved_too faults_too uncertain_too behind in
+    let own = own_keys settings.duplicates asks all omissions kept.left_out left missing made.unresolved_uses faults
+    uncertain made.option_gaps kept.left_are missing_too unresolved_too faults_too uncertain_too gaps_too behind in
     record {
       index = of.in_form.index;
       built = record {
@@ -138,12 +154,13 @@ kept_built Is all parsed settings made numbers left once missing faults uncertai
           decided = of.in_form.made.decided;
           told_is = record {
             exact = λ fault. (
-              λ there. is_told settings.duplicates all omissions kept.left_out left missing made.unresolved_uses faults
-                  uncertain kept.left_are missing_too unresolved_too faults_too uncertain_too behind fault
+              λ there. is_told settings.duplicates asks all omissions kept.left_out left missing made.unresolved_uses
+                  faults uncertain made.option_gaps kept.left_are missing_too unresolved_too faults_too uncertain_too
+                  gaps_too behind fault
                   ((order_too.same own fault).0 there),
-              λ is. (order_too.same own fault).1 (told_is settings.duplicates all omissions kept.left_out left missing
-                  made.unresolved_uses faults uncertain kept.left_are missing_too unresolved_too faults_too uncertain_too
-                  behind fault is),
+              λ is. (order_too.same own fault).1 (told_is settings.duplicates asks all omissions kept.left_out left
+                  missing made.unresolved_uses faults uncertain made.option_gaps kept.left_are missing_too unresolved_too
+                  faults_too uncertain_too gaps_too behind fault is),
             );
             ascends = order_too.rising;
           };

@@ -153,7 +153,7 @@ module _ (omissions : Omissions) (files mended : List File) (all : AllMended fil
 
 module _ (kept_clear : KeptFilesAreClear) (alike : CertainResolvesAlike) where
   pub certain_uses_resolve_alike : CertainUsesResolveAlike
-  certain_uses_resolve_alike duplicates all parsed told own present kept mended are origins number source facts has
+  certain_uses_resolve_alike duplicates asks all parsed told own present kept mended are origins number source facts has
       type_use listed target is told_not nothing =
       (never_invented mended omissions mended_size number is_kept_one type_use target linked_target).0
     where

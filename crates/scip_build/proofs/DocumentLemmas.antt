@@ -1,5 +1,5 @@
 -- What the second phase answers.
-use Rattle.std.proofs.Common.{◌≡◌, ◌∙◌, ℕ, ◌<◌, List, length, map, Some, None, refl, ap, sym, subst}
+use Rattle.std.proofs.Common.{◌≡◌, ◌∙◌, ℕ, ◌<◌, List, length, map, Option, Some, None, refl, ap, sym, subst}
 use Rattle.std.specs.List.{Contains, slice_get}
 use Rattle.std.specs.Option.{option_map}
 use Rattle.std.specs.declared.cmp.Ordering.TheVariants.{Less}
@@ -8,11 +8,13 @@ use Rattle.basics.proofs.ListLemmas.{item_at}
 use Rattle.proto_visibility.specs.Files.{File, IsSource}
 use Rattle.basics.proofs.FirstLemmas.{contained, at_contained}
 use Rattle.index_pool.specs.Phase.{AnswersEach, IsLeastFault}
+use Rattle.option_link.specs.declared.facts.OptionFacts.{OptionFacts}
 use Rattle.scip_records.specs.declared.records.Document.{Document}
 use Rattle.scip_model.specs.Chosen.{Chosen}
 use Rattle.scip_model.specs.Conditions.{UsesResolve}
-use Rattle.scip_model.specs.Indexes.{IsAscendingListOf, IsDocumentOf, HasDocument, HaveDocuments, document_cmp}
-use Rattle.scip_model.specs.declared.source_document.SourceDocument.{SourceDocument}
+use Rattle.scip_model.specs.Indexes.{IsAscendingListOf, IsDocumentWith, HasDocumentWith, HaveDocumentsWith}
+use Rattle.scip_model.specs.Indexes.{document_cmp}
+use Rattle.scip_model.specs.declared.source_document.PlannedWithOptions.{PlannedWithOptions}
 use Rattle.scip_model.proofs.ConditionUnresolvedLemmas.{all_resolve}
 use Rattle.scip_model.specs.Laws.{OneDocument}
 use Rattle.scip_build.specs.declared.faulty.Faulty.TheVariants.{Refuse}
@@ -21,28 +23,31 @@ use Rattle.scip_build.specs.declared.source_document.NoDocument.{NoDocument}
 use Rattle.scip_build.specs.declared.source_document.NoDocument.TheVariants as lacking
 use Rattle.scip_build.specs.Files.{ReadFile}
 use Rattle.scip_build.specs.Documents.{text_in, text_of, texts_of, HasReadText, AreReady, IsDocumentAt, GivesDocument}
-use Rattle.scip_build.specs.Documents.{fault_of_source, MayRefuseDocuments}
+use Rattle.scip_build.specs.Documents.{asked_in, fault_of_source, MayRefuseDocuments}
 use Rattle.scip_build.specs.Documents.MayRefuseDocuments.{documents_lack_memory, first_is_unresolved}
 use Rattle.scip_build.proofs.LinkingLemmas.{mapped_at}
 use Rattle.basics.proofs.PlaceLemmas.{rising_from_places}
 
 -- the documents of what was made
-abbrev pub document_in : SourceDocument → Document
-document_in made = made.document
+abbrev pub document_in : PlannedWithOptions → Document
+document_in made = made.planned.document
 
 module _ (parsed : List ReadFile) (files : List File) (chosen : Chosen) (settings : Settings) (count : ℕ)
     (ready : AreReady parsed files chosen count) where
+  abbrev asked : Option (List OptionFacts)
+  asked = asked_in settings parsed
+
   text_listed : (number : ℕ) (text : List ℕ) → HasReadText parsed number text
       → slice_get (texts_of parsed) number ≡ Some text
   text_listed number text has =
       slice_get-map text_of parsed number
       ∙ (ap (option_map text_of) has.numbered ∙ (ap (λ c. Some (text_in c)) has.read ∙ ap Some has.text_is))
 
-  module _ (one : OneDocument) (made : List SourceDocument)
+  module _ (one : OneDocument) (made : List PlannedWithOptions)
       (answers : AnswersEach (GivesDocument parsed files chosen settings) count made) where
     -- what was made of a source
     pub made_at : (number : ℕ) → IsSource files number
-        → (document : SourceDocument) × (slice_get made number ≡ Some document)
+        → (document : PlannedWithOptions) × (slice_get made number ≡ Some document)
         × IsDocumentAt parsed files chosen settings number document
     made_at number is =
         let below = (ready.sources number).1 is in
@@ -50,7 +55,7 @@ module _ (parsed : List ReadFile) (files : List File) (chosen : Chosen) (setting
         let there = item_at made number within in
         (there.0, there.1, answers.1 number there.0 there.1)
 
-    pub is_source_at : (number : ℕ) (document : SourceDocument) → slice_get made number ≡ Some document
+    pub is_source_at : (number : ℕ) (document : PlannedWithOptions) → slice_get made number ≡ Some document
         → IsSource files number
     is_source_at number document at =
         let below : number < count = rw (sym answers.0) (slice_get_within made number document at) in
@@ -60,11 +65,12 @@ module _ (parsed : List ReadFile) (files : List File) (chosen : Chosen) (setting
     documents = map document_in made
 
     found : (document : Document) → Contains documents document
-        → HasDocument files (texts_of parsed) chosen settings.package settings.encoding document
+        → HasDocumentWith asked files (texts_of parsed) chosen settings.package settings.encoding document
     found document listed =
         let of = mapped_at document_in made listed.0 document (at_contained documents document listed) in
         let is = answers.1 listed.0 of.0 of.1 in
-        let Is : Document → Type 0 = IsDocumentOf files chosen settings.package settings.encoding listed.0 is.text in
+        let Is : Document → Type 0 =
+        IsDocumentWith asked files chosen settings.package settings.encoding listed.0 is.text in
         record {
           source = listed.0;
           text = is.text;
@@ -72,12 +78,12 @@ module _ (parsed : List ReadFile) (files : List File) (chosen : Chosen) (setting
           is = subst Is (sym of.2) is.is;
         }
 
-    listed_at : (number : ℕ) (of : SourceDocument) → slice_get made number ≡ Some of
-        → slice_get documents number ≡ Some of.document
+    listed_at : (number : ℕ) (of : PlannedWithOptions) → slice_get made number ≡ Some of
+        → slice_get documents number ≡ Some of.planned.document
     listed_at number of at = slice_get-map document_in made number ∙ ap (option_map document_in) at
 
     only : (document : Document)
-        → HasDocument files (texts_of parsed) chosen settings.package settings.encoding document
+        → HasDocumentWith asked files (texts_of parsed) chosen settings.package settings.encoding document
         → Contains documents document
     only document has =
         let source : IsSource files has.source =
@@ -87,9 +93,10 @@ module _ (parsed : List ReadFile) (files : List File) (chosen : Chosen) (setting
         let text : of.text ≡ has.text =
         same_Some of.text has.text (sym (text_listed has.source of.text of.has_text) ∙ has.text_is) in
         let Of : List ℕ → Type 0 =
-        λ t. IsDocumentOf files chosen settings.package settings.encoding has.source t here.0.document in
-        let same : here.0.document ≡ document =
-        one files chosen settings.package settings.encoding has.source has.text here.0.document document
+        λ t. IsDocumentWith asked files chosen settings.package settings.encoding has.source t
+        here.0.planned.document in
+        let same : here.0.planned.document ≡ document =
+        one asked files chosen settings.package settings.encoding has.source has.text here.0.planned.document document
         (subst Of text of.is) has.is in
         contained documents has.source document (listed_at has.source here.0 here.1 ∙ ap Some same)
 
@@ -105,29 +112,29 @@ module _ (parsed : List ReadFile) (files : List File) (chosen : Chosen) (setting
         rw (x.2, y.2, first.is.relative_path, second.is.relative_path) rises
 
     pub list_of : IsAscendingListOf document_cmp
-        (HasDocument files (texts_of parsed) chosen settings.package settings.encoding) documents
+        (HasDocumentWith asked files (texts_of parsed) chosen settings.package settings.encoding) documents
     list_of = record {
       exact = λ document. (found document, only document);
       ascends = rising_from_places document_cmp documents ascending;
     }
 
-    pub each_of : HaveDocuments files (texts_of parsed) chosen settings.package settings.encoding documents
+    pub each_of : HaveDocumentsWith asked files (texts_of parsed) chosen settings.package settings.encoding documents
     each_of source is =
         let here = made_at source is in
         let of = here.2 in (
-          here.0.document,
-          contained documents source here.0.document (listed_at source here.0 here.1),
+          here.0.planned.document,
+          contained documents source here.0.planned.document (listed_at source here.0 here.1),
           record { source = source; text = of.text; text_is = text_listed source of.text of.has_text; is = of.is },
           refl,
         )
 
   -- a source without a use that is refused has none that names no type
-  pub resolves : (number : ℕ) (made : SourceDocument)
+  pub resolves : (number : ℕ) (made : PlannedWithOptions)
       → IsDocumentAt parsed files chosen settings number made
       → settings.faulty ≡ Refuse → UsesResolve files number
   resolves number made is refuse =
-      let none : slice_get made.unresolved 0 ≡ None = rw (is.refused refuse) refl in
-      all_resolve files number made.unresolved is.unresolved_uses none
+      let none : slice_get made.planned.unresolved 0 ≡ None = rw (is.refused refuse) refl in
+      all_resolve files number made.planned.unresolved is.unresolved_uses none
 
   -- why a source has no document, the first of those that have none, is why there are no documents
   pub refused_of : (workers number : ℕ) (fault : NoDocument)

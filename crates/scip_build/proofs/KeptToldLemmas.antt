@@ -1,5 +1,5 @@
 -- What is told of a tree: just what is left out and what has no target, each once.
-use Rattle.std.proofs.Common.{◌≡◌, ◌∙◌, ◌↔◌, inl, inr, ℕ, ◌-◌, ◌++◌, false, true≢false, List, []}
+use Rattle.std.proofs.Common.{◌≡◌, ◌∙◌, ◌↔◌, inl, inr, ℕ, ◌-◌, ◌++◌, Bool, false, true≢false, List, []}
 use Rattle.std.proofs.Common.{length, map, Option, Some, None, Result, Err, ap, sym, refl, subst, arith}
 use Rattle.std.specs.List.{Contains, flat_map, slice_get}
 use Rattle.std.specs.Option.{unwrap_or}
@@ -37,15 +37,15 @@ use Rattle.proto_visibility.proofs.SeeingLemmas.{slice_get_prefix}
 use Rattle.scip_build.specs.declared.fault.FileFault.{FileFault}
 use Rattle.scip_build.specs.declared.omission.Omission.{Omission}
 use Rattle.scip_build.specs.declared.omission.Omission.TheVariants.{File, MissingImport, Unresolved}
-use Rattle.scip_build.specs.declared.omission.Omission.TheVariants.{Ambiguous, Uncertain}
+use Rattle.scip_build.specs.declared.omission.Omission.TheVariants.{Ambiguous, OptionGap, Uncertain}
 use Rattle.scip_build.specs.Files.{FileContents, ReadFile}
 use Rattle.scip_build.specs.Linking.{linked_file, linked_files, HasFault}
-use Rattle.scip_build.specs.Documents.{IsUnresolvedAt}
+use Rattle.scip_build.specs.Documents.{asked_if, IsGapAt, IsUnresolvedAt}
 use Rattle.scip_build.specs.Kept.{IsLeftFor, place_among_all, IsTold, Key, told_key, key_cmp, told_cmp}
-use Rattle.scip_build.specs.Kept.IsTold.{of_file, of_import, of_use, of_ambiguous, of_uncertain}
+use Rattle.scip_build.specs.Kept.IsTold.{of_file, of_import, of_use, of_ambiguous, of_uncertain, of_gap}
 use Rattle.scip_build.specs.Keeping.{linked_numbers, as_left_out, linked_of}
 use Rattle.scip_build.specs.Telling.{Adds, FromFront, IsLeftIf, place_by, told_import, told_use, HaveOwnKeys}
-use Rattle.scip_build.specs.Telling.{AreUncertainUses, AreUseFaults, IsFaultAt, number_in, told_uncertain}
+use Rattle.scip_build.specs.Telling.{AreUncertainUses, AreUseFaults, IsFaultAt, number_in, told_gap, told_uncertain}
 use Rattle.scip_build.proofs.ToldUseLemmas.{from_lists, to_lists, unresolved_file, ambiguous_file}
 use Rattle.scip_build.proofs.ToldUseLemmas.{unresolved_there, ambiguous_there}
 use Rattle.scip_build.proofs.LinkingLemmas.{mapped_at}
@@ -146,7 +146,7 @@ second_in names.Keep all omissions are number first second clash = elim clash.ex
   | inr before ↦ absurd before.0
 ]
 
-module _ (duplicates : Duplicates) (all : List ReadFile) (omissions : Omissions)
+module _ (duplicates : Duplicates) (asks : Bool) (all : List ReadFile) (omissions : Omissions)
     (are : AreOmissions duplicates (linked_files all) omissions) where
   abbrev linked : List files.File
   linked = linked_files (linked_of omissions all)
@@ -205,7 +205,7 @@ module _ (duplicates : Duplicates) (all : List ReadFile) (omissions : Omissions)
       → IsLeftFor all number omission told → (told_key told).0.0 ≡ number
   left_of number omission told at left = left_in number omission told (are.each number (Some omission) at) left
 
-  pub one_told : (a b : Omission) → IsTold all omissions a → IsTold all omissions b
+  pub one_told : (a b : Omission) → IsTold asks all omissions a → IsTold asks all omissions b
       → AreOneKey (told_key a) (told_key b) → a ≡ b
   one_told a b (of_file n o at left) (of_file m p and right) same =
       let numbers : n ≡ m = sym (left_of n o a at left) ∙ (same.file ∙ left_of m p b and right) in
@@ -225,6 +225,9 @@ module _ (duplicates : Duplicates) (all : List ReadFile) (omissions : Omissions)
   one_told a _ (of_file n o at left) (of_uncertain v m more is numbered out) same =
       let there = use_at v.place is.source in
       absurd (not_kept n o at v.place.file there.0 there.1 (sym (left_of n o a at left) ∙ same.file))
+  one_told a _ (of_file n o at left) (of_gap q is) same =
+      let there = use_at q is.source in
+      absurd (not_kept n o at q.file there.0 there.1 (sym (left_of n o a at left) ∙ same.file))
   one_told _ b (of_import p missing) (of_file m o and right) same =
       let there = import_at p missing in
       absurd (not_kept m o and p.file there.0 there.1 (sym (left_of m o b and right) ∙ sym same.file))
@@ -234,6 +237,7 @@ module _ (duplicates : Duplicates) (all : List ReadFile) (omissions : Omissions)
   one_told _ _ (of_import p missing) (of_use q is) same = absurd (omega (arith, same.what))
   one_told _ _ (of_import p missing) (of_ambiguous q is) same = absurd (omega (arith, same.what))
   one_told _ _ (of_import p missing) (of_uncertain v m more is numbered out) same = absurd (omega (arith, same.what))
+  one_told _ _ (of_import p missing) (of_gap q is) same = absurd (omega (arith, same.what))
   one_told _ b (of_use p is) (of_file m o and right) same =
       let there = use_at p is.0 in
       absurd (not_kept m o and p.file there.0 there.1 (sym (left_of m o b and right) ∙ sym same.file))
@@ -243,6 +247,7 @@ module _ (duplicates : Duplicates) (all : List ReadFile) (omissions : Omissions)
       same.end)
   one_told _ _ (of_use p is) (of_ambiguous q also) same = absurd (omega (arith, same.what))
   one_told _ _ (of_use p is) (of_uncertain v m more also numbered out) same = absurd (omega (arith, same.what))
+  one_told _ _ (of_use p is) (of_gap q also) same = absurd (omega (arith, same.what))
   one_told _ b (of_ambiguous p is) (of_file m o and right) same =
       let there = use_at p is.0 in
       absurd (not_kept m o and p.file there.0 there.1 (sym (left_of m o b and right) ∙ sym same.file))
@@ -253,6 +258,7 @@ module _ (duplicates : Duplicates) (all : List ReadFile) (omissions : Omissions)
       same.end)
   one_told _ _ (of_ambiguous p is) (of_uncertain v m more also numbered out) same =
       absurd (omega (arith, same.what))
+  one_told _ _ (of_ambiguous p is) (of_gap q also) same = absurd (omega (arith, same.what))
   one_told _ b (of_uncertain u n less is numbered out) (of_file m o and right) same =
       let there = use_at u.place is.source in
       absurd (not_kept m o and u.place.file there.0 there.1 (sym (left_of m o b and right) ∙ sym same.file))
@@ -268,11 +274,22 @@ module _ (duplicates : Duplicates) (all : List ReadFile) (omissions : Omissions)
       let number : n ≡ m =
       same_Some n m (sym numbered ∙ (ap (slice_get (linked_numbers omissions)) behind_same ∙ too)) in
       λ i. Uncertain (place i) (number i)
+  one_told _ _ (of_uncertain u n less is numbered out) (of_gap q also) same = absurd (omega (arith, same.what))
+  one_told _ b (of_gap p is) (of_file m o and right) same =
+      let there = use_at p is.source in
+      absurd (not_kept m o and p.file there.0 there.1 (sym (left_of m o b and right) ∙ sym same.file))
+  one_told _ _ (of_gap p is) (of_import q missing) same = absurd (omega (arith, same.what))
+  one_told _ _ (of_gap p is) (of_use q also) same = absurd (omega (arith, same.what))
+  one_told _ _ (of_gap p is) (of_ambiguous q also) same = absurd (omega (arith, same.what))
+  one_told _ _ (of_gap p is) (of_uncertain v m more also numbered out) same = absurd (omega (arith, same.what))
+  one_told _ _ (of_gap p is) (of_gap q also) same =
+      ap OptionGap (one_place (place_among_all omissions p) (place_among_all omissions q) same.file same.start
+      same.end)
 
   -- ---- what is told
 
   of_left : (number : ℕ) (omission : Option FileOmission) (told : Omission) → slice_get omissions number ≡ Some omission
-      → IsLeftIf all number omission told → IsTold all omissions told
+      → IsLeftIf all number omission told → IsTold asks all omissions told
   of_left number None told at is = absurd is
   of_left number (Some left) told at is = of_file number left at is
 
@@ -283,12 +300,14 @@ module _ (duplicates : Duplicates) (all : List ReadFile) (omissions : Omissions)
       ap to (number_of omissions all place.file parsed_file at)
 
   module _ (left : List Omission) (missing unresolved_uses : List FilePlace) (faults : List LinkFault)
-      (uncertain : List UncertainUse)
+      (uncertain : List UncertainUse) (option_gaps : List FilePlace)
       (left_are : Adds (FromFront (IsLeftIf all) omissions (length omissions)) [] left)
       (missing_are : AreMissing linked missing)
       (unresolved_are : (place : FilePlace) → Contains unresolved_uses place ↔ IsUnresolvedAt linked place)
       (faults_are : AreUseFaults linked unresolved_uses faults)
       (uncertain_are : AreUncertainUses linked uncertain)
+      (gaps_are : (place : FilePlace) → Contains option_gaps place
+      ↔ IsGapAt (asked_if asks (linked_of omissions all)) (linked_of omissions all) linked place)
       (left_behind : (u : UncertainUse) → IsUncertain linked u → IsLeftBehind omissions u.behind) where
     abbrev imports : List Omission
     imports = map (told_import (linked_numbers omissions)) missing
@@ -298,20 +317,20 @@ module _ (duplicates : Duplicates) (all : List ReadFile) (omissions : Omissions)
 
     -- a use that names nothing for this is told
     told_by : (of : LinkFault) (x : Omission) → IsFaultAt linked unresolved_uses of
-        → Contains (told_use (linked_numbers omissions) of) x → IsTold all omissions x
+        → Contains (told_use (linked_numbers omissions) of) x → IsTold asks all omissions x
     told_by (link.Unresolved p) x at there =
         let same : p.file ≡ at.place.file = unresolved_file linked at.place.file p at.is in
         let is = subst (λ n. IsUseFault linked n (link.Unresolved p)) (sym same) at.is in
         let source = subst (files.IsSource linked) (sym same) ((unresolved_are at.place).0 at.listed).source in
         let kept = use_at p source in
-        subst (IsTold all omissions) (ap Unresolved (sym (moved p kept.0 kept.1))
+        subst (IsTold asks all omissions) (ap Unresolved (sym (moved p kept.0 kept.1))
         ∙ only (Unresolved (place_by (linked_numbers omissions) p)) x there) (of_use p (source, is))
     told_by (link.Ambiguous p) x at there =
         let same : p.file ≡ at.place.file = ambiguous_file linked at.place.file p at.is in
         let is = subst (λ n. IsUseFault linked n (link.Ambiguous p)) (sym same) at.is in
         let source = subst (files.IsSource linked) (sym same) ((unresolved_are at.place).0 at.listed).source in
         let kept = use_at p source in
-        subst (IsTold all omissions) (ap Ambiguous (sym (moved p kept.0 kept.1))
+        subst (IsTold asks all omissions) (ap Ambiguous (sym (moved p kept.0 kept.1))
         ∙ only (Ambiguous (place_by (linked_numbers omissions) p)) x there) (of_ambiguous p (source, is))
     told_by (link.Broken number) x at there = absurd (in_nothing x there)
     told_by (link.Duplicate first second) x at there = absurd (in_nothing x there)
@@ -331,7 +350,10 @@ module _ (duplicates : Duplicates) (all : List ReadFile) (omissions : Omissions)
     abbrev more : List Omission
     more = map (told_uncertain (linked_numbers omissions)) uncertain
 
-    front_told : (fault : Omission) → Contains front fault → IsTold all omissions fault
+    abbrev gaps : List Omission
+    gaps = map (told_gap (linked_numbers omissions)) option_gaps
+
+    front_told : (fault : Omission) → Contains front fault → IsTold asks all omissions fault
     front_told fault there = elim (Contains-append_cases (left ++ imports) uses fault there) [
       | inl before ↦ elim (Contains-append_cases left imports fault before) [
         | inl one ↦ elim ((left_are fault).0 one) [
@@ -342,7 +364,8 @@ module _ (duplicates : Duplicates) (all : List ReadFile) (omissions : Omissions)
             let of = mapped_from (told_import (linked_numbers omissions)) missing fault import in
             let is = (missing_are.each of.0).0 of.1 in
             let at = import_at of.0 is in
-            subst (IsTold all omissions) (ap MissingImport (sym (moved of.0 at.0 at.1)) ∙ of.2) (of_import of.0 is))
+            subst (IsTold asks all omissions) (ap MissingImport (sym (moved of.0 at.0 at.1)) ∙ of.2)
+            (of_import of.0 is))
       ]
       | inr use_ ↦ (
           let of = from_lists (told_use (linked_numbers omissions)) faults fault use_ in
@@ -360,22 +383,35 @@ module _ (duplicates : Duplicates) (all : List ReadFile) (omissions : Omissions)
         ap (λ (o : Option ℕ). unwrap_or o u.behind) numbered in
         λ i. Uncertain (place i) (behind_is i)
 
-    pub is_told : (fault : Omission) → Contains (front ++ more) fault → IsTold all omissions fault
-    is_told fault there = elim (Contains-append_cases front more fault there) [
+    before_told : (fault : Omission) → Contains (front ++ more) fault → IsTold asks all omissions fault
+    before_told fault there = elim (Contains-append_cases front more fault there) [
       | inl before ↦ front_told fault before
       | inr last ↦ (
           let of = mapped_from (told_uncertain (linked_numbers omissions)) uncertain fault last in
           let is = (uncertain_are of.0).0 of.1 in
           let out = left_behind of.0 is in
-          subst (IsTold all omissions) (sym (uncertain_is of.0 out.number is out.numbered) ∙ of.2)
+          subst (IsTold asks all omissions) (sym (uncertain_is of.0 out.number is out.numbered) ∙ of.2)
           (of_uncertain of.0 out.number out.omission is out.numbered out.left_out))
     ]
 
-    in_uses : (fault : Omission) → Contains uses fault → Contains (front ++ more) fault
-    in_uses fault there =
-        Contains-append_left front more fault (Contains-append_right (left ++ imports) uses fault there)
+    pub is_told : (fault : Omission) → Contains ((front ++ more) ++ gaps) fault → IsTold asks all omissions fault
+    is_told fault there = elim (Contains-append_cases (front ++ more) gaps fault there) [
+      | inl before ↦ before_told fault before
+      | inr gap ↦ (
+          let of = mapped_from (told_gap (linked_numbers omissions)) option_gaps fault gap in
+          let is = (gaps_are of.0).0 of.1 in
+          let at = use_at of.0 is.source in
+          subst (IsTold asks all omissions) (ap OptionGap (sym (moved of.0 at.0 at.1)) ∙ of.2) (of_gap of.0 is))
+    ]
 
-    pub told_is : (fault : Omission) → IsTold all omissions fault → Contains (front ++ more) fault
+    in_front_of_gaps : (fault : Omission) → Contains (front ++ more) fault → Contains ((front ++ more) ++ gaps) fault
+    in_front_of_gaps = Contains-append_left (front ++ more) gaps
+
+    in_uses : (fault : Omission) → Contains uses fault → Contains ((front ++ more) ++ gaps) fault
+    in_uses fault there = in_front_of_gaps fault
+        (Contains-append_left front more fault (Contains-append_right (left ++ imports) uses fault there))
+
+    pub told_is : (fault : Omission) → IsTold asks all omissions fault → Contains ((front ++ more) ++ gaps) fault
     told_is fault (of_file n o at found) =
         let there = (left_are fault).1 (inr (record {
           index = n;
@@ -384,15 +420,15 @@ module _ (duplicates : Duplicates) (all : List ReadFile) (omissions : Omissions)
           stands = at;
           is = found;
         })) in
-        Contains-append_left front more fault
-        (Contains-append_left (left ++ imports) uses fault (Contains-append_left left imports fault there))
+        in_front_of_gaps fault (Contains-append_left front more fault
+        (Contains-append_left (left ++ imports) uses fault (Contains-append_left left imports fault there)))
     told_is _ (of_import p is) =
         let at = import_at p is in
         let there = contains_map (told_import (linked_numbers omissions)) missing p ((missing_are.each p).1 is) in
         let fault : Omission = MissingImport (place_among_all omissions p) in
-        Contains-append_left front more fault
+        in_front_of_gaps fault (Contains-append_left front more fault
         (Contains-append_left (left ++ imports) uses fault (Contains-append_right left imports fault
-        (subst (Contains imports) (ap MissingImport (moved p at.0 at.1)) there)))
+        (subst (Contains imports) (ap MissingImport (moved p at.0 at.1)) there))))
     told_is _ (of_use p is) =
         let at = use_at p is.0 in
         let its : Omission = Unresolved (place_by (linked_numbers omissions) p) in
@@ -408,8 +444,15 @@ module _ (duplicates : Duplicates) (all : List ReadFile) (omissions : Omissions)
     told_is _ (of_uncertain u n o is numbered out) =
         let fault : Omission = Uncertain (place_among_all omissions u.place) n in
         let there = contains_map (told_uncertain (linked_numbers omissions)) uncertain u ((uncertain_are u).1 is) in
-        Contains-append_right front more fault (subst (Contains more) (uncertain_is u n is numbered) there)
+        in_front_of_gaps fault
+        (Contains-append_right front more fault (subst (Contains more) (uncertain_is u n is numbered) there))
+    told_is _ (of_gap p is) =
+        let at = use_at p is.source in
+        let fault : Omission = OptionGap (place_among_all omissions p) in
+        let there = contains_map (told_gap (linked_numbers omissions)) option_gaps p ((gaps_are p).1 is) in
+        Contains-append_right (front ++ more) gaps fault
+        (subst (Contains gaps) (ap OptionGap (moved p at.0 at.1)) there)
 
-    pub own_keys : HaveOwnKeys (front ++ more)
+    pub own_keys : HaveOwnKeys ((front ++ more) ++ gaps)
     own_keys a b first second equal =
         one_told a b (is_told a first) (is_told b second) (one_key (told_key a) (told_key b) equal)

@@ -108,7 +108,7 @@ module _ (all : List ReadFile) (omissions : Omissions) (tree : AreOfTree all) (p
         let of = its.1 in
         let is = tree.each (left_among_all omissions (number - length kept)) of.0
         (left_at_all omissions all (number - length kept) of.0 of.1) in
-        subst IsOfTree of.2 (record { good = is.good; contents = is.contents }))
+        subst IsOfTree of.2 (record { good = is.good; contents = is.contents; fields = is.fields }))
   ]
 
   rises : (lesser number : ℕ) (a b : ReadFile) → lesser < number → slice_get (linked_of omissions all) lesser ≡ Some a

@@ -465,7 +465,7 @@ module _ (files : List File) (omissions : Omissions) (size : length omissions �
       }
 
 pub kept_resolves_alike : KeptResolvesAlike
-kept_resolves_alike duplicates all parsed told kept number type_use is_kept_one =
+kept_resolves_alike duplicates asks all parsed told kept number type_use is_kept_one =
     let files : List File = linked_files all in
     let same : linked_files parsed ≡ linked_of kept.omissions files =
     ap linked_files kept.kept ∙ linked_is kept.omissions all in

@@ -1,5 +1,7 @@
 -- Proofs of the laws.
-use Rattle.std.proofs.Common.{◌≡◌, ◌∙◌, ◌⊎◌, inl, inr, ℕ, ◌<◌, ◌≤◌, List, length, ap, refl, sym, subst, arith}
+use Rattle.std.proofs.Common.{◌≡◌, ◌∙◌, ◌⊎◌, inl, inr, ℕ, ◌<◌, ◌≤◌, Bool, true, false, List, length, ap, refl, sym}
+use Rattle.std.proofs.Common.{subst}
+use Rattle.std.proofs.Common.{arith}
 use Rattle.std.specs.Str.{IsUtf8, IsValidUpTo}
 use Rattle.std.proofs.lemmas.List.{take_all}
 use Rattle.std.proofs.lemmas.Bool.{cases_order}
@@ -13,19 +15,23 @@ use Rattle.proto_lex.specs.declared.fault.LexFault.TheVariants.{BadEscape, BadNu
 use Rattle.proto_lex.specs.declared.token.Token.{Token}
 use Rattle.proto_decl.specs.declared.form.FactForm.{FactForm}
 use Rattle.proto_parse.specs.dialect.Dialect.{Dialect}
+use Rattle.proto_parse.specs.dialect.Dialect.TheVariants.{All}
 use Rattle.proto_parse.specs.tree.File.{File}
 use Rattle.proto_parse.specs.fault.SyntaxFault.{SyntaxFault}
 use Rattle.proto_parse.specs.Derives.{Derives}
 use Rattle.proto_parse.specs.Refused.{HasFault}
 use Rattle.proto_decl.specs.Facts.{Facts, AreFactsOf}
 use Rattle.proto_decl.specs.Laws.{OneFacts}
+use Rattle.proto_options.specs.Fields.{fields_in}
+use Rattle.proto_options.specs.Laws.{OneListOfOptions}
+use Rattle.proto_options.specs.Options.{AreOptionsOf}
 use Rattle.scip_build.specs.declared.fault.FileFault.{FileFault}
 use Rattle.scip_build.specs.declared.fault.FileFault.TheVariants.{Lex, Syntax}
 use Rattle.scip_build.specs.Parsed.{form_by, HasLexing, AreFactsIn, IsUnlexed, IsUnparsed}
 use Rattle.source_tree.specs.Files.{TreeFile}
 use Rattle.scip_build.specs.ParsedFiles.{IsFirstFaulty}
 use Rattle.scip_build.specs.Laws.{OneListOfFacts, NoFactsWhereUnreadable, LexedWhereUnparsed, OneFileFault}
-use Rattle.scip_build.specs.Laws.{OneFirstFaulty}
+use Rattle.scip_build.specs.Laws.{OneBesideAFile, OneFirstFaulty}
 
 abbrev pub OneTree : Type 0
 OneTree = (dialect : Dialect) (text : List ℕ) (tokens : List Token) (file other : File)
@@ -114,6 +120,27 @@ module _ (one_tokens : OneTokens) (one_comments : OneComments) where
       let trees : a.tree ≡ b.tree = one_tree dialect a.lexed.text a.lexed.tokens a.tree b.tree a.derives moved.0 in
       let Of : File → Type 0 = λ tree. AreFactsOf (form_by dialect form) number a.lexed tree other in
       one_facts (form_by dialect form) number a.lexed a.tree facts other a.lexing.is_lexed a.of_tree (subst Of (sym trees) moved.1)
+
+  -- what is known beside them is one, too
+  pub one_beside : OneTree → OneListOfOptions → OneBesideAFile
+  one_beside one_tree one_options bytes is_included beside other a b =
+      let Here : Lexed → Type 0 = λ lexed. Derives All lexed.text lexed.tokens b.tree
+      × (is_included ≡ false → AreOptionsOf All lexed b.tree other.options) in
+      let moved : Here a.lexed =
+      subst Here (sym (same_lexing bytes a.lexed b.lexed a.lexing b.lexing)) (b.derives, b.of_source) in
+      let trees : a.tree ≡ b.tree = one_tree All a.lexed.text a.lexed.tokens a.tree b.tree a.derives moved.0 in
+      let fields : beside.fields ≡ other.fields = a.fields ∙ (ap fields_in trees ∙ sym b.fields) in
+      let Of : File → Type 0 = λ tree. AreOptionsOf All a.lexed tree other.options in
+      let options : beside.options ≡ other.options = by is_included refl
+      (λ source. one_options a.lexed a.tree beside.options other.options (a.of_source source)
+      (subst Of (sym trees) (moved.1 source)))
+      (λ included. a.of_included included ∙ sym (b.of_included included)) in
+      λ i. record { options = options i; fields = fields i }
+    where
+      by : (flag : Bool) → is_included ≡ flag → (is_included ≡ false → beside.options ≡ other.options)
+          → (is_included ≡ true → beside.options ≡ other.options) → beside.options ≡ other.options
+      by false is source included = source is
+      by true is source included = included is
 
   -- so two faults of one file are one
   pub one_file_fault : OneFirstFault → OneSyntaxFault → LexedWhereUnparsed → OneFileFault

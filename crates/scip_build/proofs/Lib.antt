@@ -35,6 +35,14 @@ pub mod LinkingLemmas
 pub mod LinkingRefusalRules
 -- What the phase answers, file by file
 mod ParsedFileLemmas
+-- The options of linked files, if names in options are linked
+mod LinkedOptionLemmas
+-- What is read of a file beside its facts
+mod OptionReadingLemmas
+-- Where options have gaps is the same of files that were read alike
+mod OptionGapLemmas
+-- What is read of one tree twice is the same, whatever is chosen
+mod ReadAlikeLemmas
 -- Files that were read are ready for their documents
 mod ReadyLemmas
 -- What is made by two lists of what is repeated that have the same names is the same

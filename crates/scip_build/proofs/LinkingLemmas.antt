@@ -6,7 +6,7 @@ use Rattle.std.proofs.lemmas.Option.{slice_get_within, none-some, same_Some}
 use Rattle.basics.proofs.ListLemmas.{item_at}
 use Rattle.proto_visibility.specs.Files.{File}
 use Rattle.proto_visibility.specs.Files as link
-use Rattle.proto_decl.specs.declared.form.FactForm.{FactForm}
+use Rattle.scip_build.specs.declared.read_form.ReadForm.{ReadForm}
 use Rattle.proto_parse.specs.dialect.Dialect.{Dialect}
 use Rattle.proto_decl.specs.Values.{Seen}
 use Rattle.index_hooks.specs.declared.choice.Choice.{Choice}
@@ -26,7 +26,7 @@ mapped_at f [] k y at = absurd (none-some y at)
 mapped_at f (x ∷ xs) zero y at = (x, refl, sym (same_Some (f x) y at))
 mapped_at f (x ∷ xs) (suc k) y at = mapped_at f xs k y at
 
-module _ (faulty : Faulty) (dialect : Dialect) (form : FactForm) (allows : Seen → Choice → Type 0)
+module _ (faulty : Faulty) (dialect : Dialect) (form : ReadForm) (allows : Seen → Choice → Type 0)
     (files : List TreeFile) (parsed : List ReadFile)
     (are : AreParsedFiles faulty dialect form allows files parsed) where
   -- the file of the tree that a linked file is
@@ -56,17 +56,17 @@ same_mapped f (x ∷ xs) (y ∷ ys) few each =
     λ i. here i ∷ others i
 
 module _ (one : OneListOfFacts) (apart : NoFactsWhereUnreadable) (faulty other : Faulty)
-    (dialect : Dialect) (form : FactForm) (allows others : Seen → Choice → Type 0) where
+    (dialect : Dialect) (form : ReadForm) (allows others : Seen → Choice → Type 0) where
   -- two parsed files of one file have the same facts, or both none
   pub same_facts : (number : ℕ) (file : TreeFile) (a b : Result FileContents FileFault)
       → HasContents faulty dialect form allows number file a → HasContents other dialect form others number file b
       → facts_in a ≡ facts_in b
   same_facts number file (Ok a) (Ok b) has also =
-      ap Some (one dialect form number file.text a.facts b.facts has.1.facts_in also.1.facts_in)
+      ap Some (one dialect form.facts number file.text a.facts b.facts has.1.facts_in also.1.facts_in)
   same_facts number file (Ok a) (Err f) has also =
-      absurd (apart dialect form number file.text a.facts f has.1.facts_in also.1)
+      absurd (apart dialect form.facts number file.text a.facts f has.1.facts_in also.1)
   same_facts number file (Err f) (Ok b) has also =
-      absurd (apart dialect form number file.text b.facts f also.1.facts_in has.1)
+      absurd (apart dialect form.facts number file.text b.facts f also.1.facts_in has.1)
   same_facts number file (Err f) (Err g) has also = refl
 
   same_linked : (number : ℕ) (file : TreeFile) (a b : ReadFile) → IsParsedFile faulty dialect form allows number file a

@@ -5,7 +5,7 @@ use Rattle.std.specs.List.{slice_get}
 use Rattle.std.specs.Option.{IfSome, option_map}
 use Rattle.std.proofs.lemmas.Option.{slice_get_within}
 use Rattle.basics.proofs.ListLemmas.{item_at}
-use Rattle.proto_decl.specs.declared.form.FactForm.{FactForm}
+use Rattle.scip_build.specs.declared.read_form.ReadForm.{ReadForm}
 use Rattle.proto_parse.specs.dialect.Dialect.{Dialect}
 use Rattle.proto_decl.specs.Values.{Seen}
 use Rattle.index_hooks.specs.declared.choice.Choice.{Choice}
@@ -51,16 +51,16 @@ given_at Holds (Some file) path text is_included paths texts flags each =
 
 -- a source that was read has facts, where it is refused else
 pub source_has_facts : (faulty : Faulty) → faulty ≡ Refuse
-    → (dialect : Dialect) (form : FactForm) (allows : Seen → Choice → Type 0) (number : ℕ) (file : TreeFile)
+    → (dialect : Dialect) (form : ReadForm) (allows : Seen → Choice → Type 0) (number : ℕ) (file : TreeFile)
     (contents : Result FileContents FileFault)
     → HasContents faulty dialect form allows number file contents → IsReadIfSource dialect number file
 source_has_facts faulty refused dialect form allows number file (Ok contents) has source =
-    (form, contents.facts, has.1.facts_in)
+    (form.facts, contents.facts, has.1.facts_in)
 source_has_facts faulty refused dialect form allows number file (Err fault) has source =
     let May : Faulty → Type 0 = λ f. may_be_unread f file.is_included ≡ true in
     absurd (true≢false (sym (subst May refused has.0) ∙ source))
 
-module _ (faulty : Faulty) (dialect : Dialect) (form : FactForm) (allows : Seen → Choice → Type 0)
+module _ (faulty : Faulty) (dialect : Dialect) (form : ReadForm) (allows : Seen → Choice → Type 0)
     (files : List TreeFile) where
   pub parsed_of : (parsed : List ReadFile)
       → AnswersEach (GivesParsedFile faulty dialect form allows files) (length files) parsed

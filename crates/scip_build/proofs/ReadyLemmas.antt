@@ -1,9 +1,11 @@
 -- Files that were read are ready for their documents.
 use Rattle.std.proofs.Common.{◌≡◌, ◌∙◌, ℕ, ◌+◌, ◌<◌, ◌≤◌, zero, suc, Bool, false, true, not, List, [], ◌∷◌}
 use Rattle.std.proofs.Common.{length}
-use Rattle.std.proofs.Common.{map, Some, Result, Ok, Err, ap, sym, refl, subst, arith}
+use Rattle.std.proofs.Common.{map, Option, Some, None, Result, Ok, Err, ap, sym, refl, subst, arith}
 use Rattle.std.specs.List.{slice_get, prefix_len}
-use Rattle.std.specs.Option.{option_map}
+use Rattle.std.specs.Option.{option_map, unwrap_or}
+use Rattle.std.specs.List.{Contains}
+use Rattle.std.specs.List.Sorted.{IsStrictlyIncreasing}
 use Rattle.std.specs.declared.cmp.Ordering.TheVariants.{Less}
 use Rattle.std.specs.Ordering.{nat_cmp, bool_cmp, ordering_then}
 use Rattle.std.specs.Cmp.Lexicographic.{slice_cmp}
@@ -11,7 +13,15 @@ use Rattle.std.proofs.lemmas.List.{length-map}
 use Rattle.std.proofs.lemmas.Option.{same_Some, none-some, slice_get-map, slice_get_within, get_or_from_slice_get}
 use Rattle.std.proofs.lemmas.Bool.{and_parts, not-true}
 use Rattle.basics.proofs.ListLemmas.{item_at}
+use Rattle.basics.proofs.FirstLemmas.{at_contained}
 use Rattle.proto_decl.specs.declared.form.FactForm.{FactForm}
+use Rattle.proto_parse.specs.dialect.Dialect.TheVariants.{All}
+use Rattle.proto_options.specs.Laws.{FieldsStandInOrder}
+use Rattle.proto_options.specs.declared.fields.FieldFact.{FieldFact}
+use Rattle.option_link.specs.declared.facts.OptionFacts.{OptionFacts}
+use Rattle.option_link.specs.Beside.{nothing_beside}
+use Rattle.option_link.specs.Fields.{AreInOrder}
+use Rattle.scip_build.specs.declared.read_form.ReadForm.{ReadForm}
 use Rattle.proto_parse.specs.dialect.Dialect.{Dialect}
 use Rattle.proto_decl.specs.Facts.{Facts, AreFactsOf, AreOfSomeFile}
 use Rattle.proto_decl.specs.Values.{Seen}
@@ -29,13 +39,13 @@ use Rattle.source_tree.specs.Files.{TreeFile, file_cmp}
 use Rattle.source_tree.specs.Trees.{IsTree}
 use Rattle.scip_build.specs.declared.faulty.Faulty.{Faulty}
 use Rattle.scip_build.specs.declared.fault.FileFault.{FileFault}
-use Rattle.scip_build.specs.Parsed.{form_by, AreFactsIn}
+use Rattle.scip_build.specs.Parsed.{asks_options, form_by, AreFactsIn, IsBesideIf}
 use Rattle.scip_build.specs.Files.{FileContents, ReadFile}
 use Rattle.scip_build.specs.ParsedFiles.{seen_of, HasContents, IsParsedFile, AreParsedFiles}
 use Rattle.scip_build.specs.Linking.{facts_in, linked_file, linked_files, choices_in, choices_of}
-use Rattle.scip_build.specs.Ready.{AreWhole, AreWholeIfRead, parsed_file_cmp, AreOfTree, ArePresent}
+use Rattle.scip_build.specs.Ready.{AreWhole, AreWholeIfRead, HasFieldsInOrder, parsed_file_cmp, AreOfTree, ArePresent}
 use Rattle.scip_build.specs.Keeping.{is_source}
-use Rattle.scip_build.specs.Documents.{text_of, HasReadText, IsRead, AreReady}
+use Rattle.scip_build.specs.Documents.{beside_in, known_in, text_of, HasReadText, IsRead, AreReady}
 use Rattle.scip_build.proofs.LinkingLemmas.{mapped_at, own_paths}
 use Rattle.basics.proofs.PlaceLemmas.{beside, rising_at}
 
@@ -62,20 +72,48 @@ of_text dialect form number bytes facts has =
       text_is = has.lexing.of_bytes;
     }
 
-whole : (faulty : Faulty) (dialect : Dialect) (form : FactForm) (allows : Seen → Choice → Type 0) (number : ℕ)
+whole : (faulty : Faulty) (dialect : Dialect) (form : ReadForm) (allows : Seen → Choice → Type 0) (number : ℕ)
     (file : TreeFile) (contents : Result FileContents FileFault)
     → HasContents faulty dialect form allows number file contents → AreWholeIfRead contents
 whole faulty dialect form allows number file (Ok contents) has =
     let Of : List ℕ → Type 0 = λ bytes. AreOfText bytes contents.facts in
     let may_come : Declaration → Choice → Type 0 = λ declaration choice. allows (seen_of declaration) choice in
     record {
-      of_text = subst Of (sym has.0) (of_text dialect form number file.text contents.facts has.1.facts_in);
+      of_text = subst Of (sym has.0) (of_text dialect form.facts number file.text contents.facts has.1.facts_in);
       chosen = λ index declared at.
           beside may_come contents.facts.declarations contents.choices index declared has.1.chosen at;
     }
 whole faulty dialect form allows number file (Err fault) has = tt
 
-module _ (faulty : Faulty) (dialect : Dialect) (form : FactForm) (allows : Seen → Choice → Type 0)
+-- the fields that are known of it stand in order
+abbrev AreRising : List FieldFact → Type 0
+AreRising fields = IsStrictlyIncreasing (map (λ fact. fact.name.start) fields)
+
+abbrev Rises : Option OptionFacts → Type 0
+Rises known = AreRising (unwrap_or known nothing_beside).fields
+
+none_rises : AreRising []
+none_rises k within = absurd (omega (arith, within))
+
+rises_beside : FieldsStandInOrder → (asked : Bool) (bytes : List ℕ) (is_included : Bool) (contents : FileContents)
+    (beside : Option OptionFacts) → IsBesideIf asked bytes is_included beside → contents.beside ≡ beside
+    → HasFieldsInOrder (Ok contents)
+rises_beside in_order false bytes is_included contents beside is same =
+    subst Rises (sym (same ∙ is)) none_rises
+rises_beside in_order true bytes is_included contents None is same = absurd is
+rises_beside in_order true bytes is_included contents (Some beside) is same =
+    subst Rises (sym same) (subst AreRising (sym is.fields)
+    (in_order is.lexed is.tree is.lexing.is_lexed (All, is.derives)))
+
+fields_rise : FieldsStandInOrder → (faulty : Faulty) (dialect : Dialect) (form : ReadForm)
+    (allows : Seen → Choice → Type 0) (number : ℕ) (file : TreeFile) (contents : Result FileContents FileFault)
+    → HasContents faulty dialect form allows number file contents → HasFieldsInOrder contents
+fields_rise in_order faulty dialect form allows number file (Ok contents) has =
+    rises_beside in_order (asks_options dialect form.options) file.text file.is_included contents contents.beside
+    has.2 refl
+fields_rise in_order faulty dialect form allows number file (Err fault) has = none_rises
+
+module _ (faulty : Faulty) (dialect : Dialect) (form : ReadForm) (allows : Seen → Choice → Type 0)
     (tree : List TreeFile) (parsed : List ReadFile) (are : AreParsedFiles faulty dialect form allows tree parsed) where
   -- the file that a reading is one of
   record IsReadAt (number : ℕ) (parsed_file : ReadFile) : Type 0 where
@@ -99,7 +137,7 @@ module _ (faulty : Faulty) (dialect : Dialect) (form : FactForm) (allows : Seen 
   pub present_at : ArePresent parsed
   present_at number parsed_file at = (read_at number parsed_file at).is.present
 
-  module _ (is_tree : IsTree tree) where
+  module _ (in_order : FieldsStandInOrder) (is_tree : IsTree tree) where
     good_at : (number : ℕ) (parsed_file : ReadFile) → slice_get parsed number ≡ Some parsed_file
         → IsGoodPath parsed_file.path
     good_at number parsed_file at =
@@ -109,6 +147,12 @@ module _ (faulty : Faulty) (dialect : Dialect) (form : FactForm) (allows : Seen 
         subst Good (get_or_from_slice_get tree number read.file read.file read.numbered)
         (is_tree.good number read.file (slice_get_within tree number read.file read.numbered)) in
         subst IsGoodPath (sym read.is.path) good
+
+    fields_at : (number : ℕ) (parsed_file : ReadFile) → slice_get parsed number ≡ Some parsed_file
+        → HasFieldsInOrder parsed_file.contents
+    fields_at number parsed_file at =
+        let read = read_at number parsed_file at in
+        fields_rise in_order faulty dialect form allows number read.file parsed_file.contents read.is.contents
 
     rises : (lesser number : ℕ) (a b : ReadFile) → lesser < number → slice_get parsed lesser ≡ Some a
         → slice_get parsed number ≡ Some b → parsed_file_cmp a b ≡ Less
@@ -136,7 +180,11 @@ module _ (faulty : Faulty) (dialect : Dialect) (form : FactForm) (allows : Seen 
     of_tree = record {
       few = rw are.one_each is_tree.few;
       each = λ number parsed_file at.
-          record { good = good_at number parsed_file at; contents = whole_at number parsed_file at };
+          record {
+            good = good_at number parsed_file at;
+            contents = whole_at number parsed_file at;
+            fields = fields_at number parsed_file at;
+          };
       own = own_paths faulty dialect form allows tree parsed are is_tree.own;
       rising = rises;
     }
@@ -209,6 +257,16 @@ module _ (parsed : List ReadFile)
           declaration_is = chosen.1;
         },
       )
+
+-- ---- what is known beside them
+
+-- the fields of each file stand in order
+pub in_order_of : (parsed : List ReadFile) → AreOfTree parsed → AreInOrder (known_in parsed)
+in_order_of parsed tree beside there =
+    let at = at_contained (known_in parsed) beside there in
+    let of = mapped_at (λ (parsed_file : ReadFile). beside_in parsed_file.contents) parsed there.0 beside at in
+    subst (λ (known : OptionFacts). IsStrictlyIncreasing (map (λ fact. fact.name.start) known.fields)) (sym of.2)
+    (tree.each there.0 of.0 of.1).fields
 
 -- ---- the sources in front
 

@@ -39,7 +39,12 @@ use Rattle.proto_decl.specs.Declares.{simple_name}
 use Rattle.scip_model.specs.Entries.{file_entry, IsKeptEntry, HasEntry, HasExternal, declaration_entry}
 use Rattle.scip_model.specs.Entries.{documentation_of}
 use Rattle.scip_model.specs.Entries as entry
-use Rattle.scip_model.specs.Indexes.{IsAscendingListOf, IsDocumentOf, HasDocument, IsIndexOf}
+use Rattle.proto_lex.specs.declared.span.Span.{Span}
+use Rattle.option_link.specs.declared.facts.OptionFacts.{OptionFacts}
+use Rattle.scip_model.specs.Options.{NamesInOption, OccursInOptions, OccursApart, OccursWith, HasExternalOfOption}
+use Rattle.scip_model.specs.Options.{HasExternalWith}
+use Rattle.scip_model.specs.Options.OccursInOptions.{of_option}
+use Rattle.scip_model.specs.Indexes.{IsAscendingListOf, IsDocumentWith, HasDocumentWith, IsIndexWith}
 
 -- ---- names that are there
 
@@ -228,6 +233,60 @@ module _ (packages : Packages) (a b : RepeatedNames) (same : AreSame a b) (files
     kept = kept_entry chosen is.number is.index information is.kept;
   }
 
+  -- ---- the same of names in options
+
+  names_in_option : (known : List OptionFacts) (source : ℕ) (text : List ℕ) (span : Span) (part : Entity)
+      (entity : symbols.Entity) → NamesInOption files known ids source text span part entity
+      → NamesInOption files known others source text span part entity
+  names_in_option known source text span part entity is = record {
+    beside = is.beside;
+    its = is.its;
+    option = is.option;
+    listed = is.listed;
+    target = is.target;
+    is_target = is.is_target;
+    counts = is.counts;
+    index = is.index;
+    component_is = is.component_is;
+    part_is = is.part_is;
+    entity_is = named_as is.is_target.parts.declaration.full_name part entity is.entity_is;
+  }
+
+  in_options : (known : List OptionFacts) (chosen : Chosen) (encoding : Encoding) (source : ℕ) (text : List ℕ)
+      (occurrence : Occurrence) → OccursInOptions files known chosen ids encoding source text occurrence
+      → OccursInOptions files known chosen others encoding source text occurrence
+  in_options known chosen encoding source text _ (of_option {span = span} {part = part} {entity = entity} names shown) =
+      subst (λ id. OccursInOptions files known chosen others encoding source text
+      (occurrence_over encoding text id span entity no_role))
+      (sym (of_part part)) (of_option (names_in_option known source text span part entity names) shown)
+
+  external_of_option : (known : List OptionFacts) (texts : List (List ℕ)) (chosen : Chosen)
+      (information : SymbolInformation) → HasExternalOfOption files known texts chosen ids information
+      → HasExternalOfOption files known texts chosen others information
+  external_of_option known texts chosen information is = record {
+    source = is.source;
+    is_source = is.is_source;
+    text = is.text;
+    text_is = is.text_is;
+    span = is.span;
+    entity = is.entity;
+    number = is.number;
+    index = is.index;
+    names = names_in_option known is.source is.text is.span (link.Declared is.number is.index) is.entity is.names;
+    file = is.file;
+    numbered = is.numbered;
+    included = is.included;
+    kept = kept_entry chosen is.number is.index information is.kept;
+  }
+
+  external_with : (asked : Option (List OptionFacts)) (texts : List (List ℕ)) (chosen : Chosen)
+      (information : SymbolInformation) → HasExternalWith asked files texts chosen ids information
+      → HasExternalWith asked files texts chosen others information
+  external_with None texts chosen information is = has_external chosen information is
+  external_with (Some known) texts chosen information (inl is) = inl (has_external chosen information is)
+  external_with (Some known) texts chosen information (inr is) =
+      inr (external_of_option known texts chosen information is)
+
 -- ---- so the index is the same
 
 ascending_too : {X : Type 0} (cmp : X → X → Ordering) (W V : X → Type 0) (list : List X) → ((x : X) → W x → V x)
@@ -240,23 +299,37 @@ ascending_too cmp W V list to back is = record {
 turned : (a b : RepeatedNames) → AreSame a b → AreSame b a
 turned a b same number name = sym (same number name)
 
-module _ (packages : Packages) (files : List File) (texts : List (List ℕ)) (chosen : Chosen) (encoding : Encoding) where
+module _ (asked : Option (List OptionFacts)) (packages : Packages) (files : List File) (texts : List (List ℕ))
+    (chosen : Chosen) (encoding : Encoding) where
+  occurs_with : (asked : Option (List OptionFacts)) (a b : RepeatedNames) → AreSame a b → (source : ℕ)
+      (text : List ℕ) (occurrence : Occurrence)
+      → OccursWith asked files chosen (naming packages a) encoding source text occurrence
+      → OccursWith asked files chosen (naming packages b) encoding source text occurrence
+  occurs_with None a b same source text occurrence is =
+      occurs_too packages a b same files chosen encoding source text occurrence is
+  occurs_with (Some known) a b same source text occurrence (inl is) =
+      inl (occurs_too packages a b same files chosen encoding source text occurrence is)
+  occurs_with (Some known) a b same source text occurrence (inr is) = inr (record {
+    occurs = in_options packages a b same files known chosen encoding source text occurrence is.occurs;
+    apart = λ other there.
+        is.apart other (occurs_too packages b a (turned a b same) files chosen encoding source text other there);
+  })
+
   abbrev Has : RepeatedNames → Document → Type 0
-  Has names = HasDocument files texts chosen (naming packages names) encoding
+  Has names = HasDocumentWith asked files texts chosen (naming packages names) encoding
 
   document_too : (a b : RepeatedNames) → AreSame a b → (source : ℕ) (text : List ℕ) (document : Document)
-      → IsDocumentOf files chosen (naming packages a) encoding source text document
-      → IsDocumentOf files chosen (naming packages b) encoding source text document
+      → IsDocumentWith asked files chosen (naming packages a) encoding source text document
+      → IsDocumentWith asked files chosen (naming packages b) encoding source text document
   document_too a b same source text document is = record {
     file = is.file;
     numbered = is.numbered;
     is_source = is.is_source;
     present = is.present;
     relative_path = is.relative_path;
-    occurrences = ascending_too _ (Occurs files chosen (naming packages a) encoding source text)
-        (Occurs files chosen (naming packages b) encoding source text) document.occurrences
-        (occurs_too packages a b same files chosen encoding source text)
-        (occurs_too packages b a (turned a b same) files chosen encoding source text) is.occurrences;
+    occurrences = ascending_too _ (OccursWith asked files chosen (naming packages a) encoding source text)
+        (OccursWith asked files chosen (naming packages b) encoding source text) document.occurrences
+        (occurs_with asked a b same source text) (occurs_with asked b a (turned a b same) source text) is.occurrences;
     symbols = ascending_too _ (HasEntry files chosen (naming packages a) source)
         (HasEntry files chosen (naming packages b) source) document.symbols
         (has_entry packages a b same files chosen source)
@@ -274,8 +347,8 @@ module _ (packages : Packages) (files : List File) (texts : List (List ℕ)) (ch
   }
 
   pub same_index : (a b : RepeatedNames) → AreSame a b → (project_root : List ℕ) (index : Index)
-      → IsIndexOf files texts chosen (naming packages a) encoding project_root index
-      → IsIndexOf files texts chosen (naming packages b) encoding project_root index
+      → IsIndexWith asked files texts chosen (naming packages a) encoding project_root index
+      → IsIndexWith asked files texts chosen (naming packages b) encoding project_root index
   same_index a b same project_root index is = record {
     metadata_is = is.metadata_is;
     one_text_each = is.one_text_each;
@@ -284,8 +357,8 @@ module _ (packages : Packages) (files : List File) (texts : List (List ℕ)) (ch
     each = λ source is_source.
         let of = is.each source is_source in
         (of.0, of.1, has_document a b same of.0 of.2, of.3);
-    externals = ascending_too _ (HasExternal files chosen (naming packages a))
-        (HasExternal files chosen (naming packages b)) index.external_symbols
-        (has_external packages a b same files chosen)
-        (has_external packages b a (turned a b same) files chosen) is.externals;
+    externals = ascending_too _ (HasExternalWith asked files texts chosen (naming packages a))
+        (HasExternalWith asked files texts chosen (naming packages b)) index.external_symbols
+        (external_with packages a b same files asked texts chosen)
+        (external_with packages b a (turned a b same) files asked texts chosen) is.externals;
   }

@@ -16,7 +16,7 @@ use Rattle.scip_model.specs.Conditions.{IsResolved, ListsUnresolved, AreUnresolv
 use Rattle.scip_model.specs.Conditions.ListsUnresolved.{at_end, has, lacks}
 use Rattle.scip_build.specs.declared.made.MadeDocument.{MadeDocument}
 use Rattle.scip_build.specs.Documents.{IsUnresolvedAt}
-use Rattle.scip_build.specs.Made.{place_in, unresolved_from}
+use Rattle.scip_build.specs.Made.{place_in, places_from}
 use Rattle.basics.proofs.StrictOrderLemmas.{in_either}
 use Rattle.source_tree.proofs.TreeLemmas.{mapped_from}
 
@@ -120,28 +120,30 @@ module _ (files : List File) (source : ℕ) (spans : List Span)
 -- ---- of all
 
 -- the place is that of a span of the source with this number
-pub record IsPlaceOf {Out : Type 0} (made : List (MadeDocument Out)) (first : ℕ) (place : FilePlace) : Type 0 where
+pub record IsPlaceOf {Out : Type 0} (spans_of : MadeDocument Out → List Span) (made : List (MadeDocument Out))
+    (first : ℕ) (place : FilePlace) : Type 0 where
   pub number : ℕ
   pub document : MadeDocument Out
   pub numbered : slice_get made number ≡ Some document
   pub file : place.file ≡ first + number
-  pub listed : Contains document.unresolved place.span
+  pub listed : Contains (spans_of document) place.span
 
-module _ {Out : Type 0} where
+module _ {Out : Type 0} (spans_of : MadeDocument Out → List Span) where
   pub place_at : (first : ℕ) (made : List (MadeDocument Out)) (place : FilePlace)
-      → Contains (unresolved_from first made) place
-      → IsPlaceOf made first place
+      → Contains (places_from spans_of first made) place
+      → IsPlaceOf spans_of made first place
   place_at first [] place there = absurd (in_nothing place there)
   place_at first (m ∷ ms) place there =
-      elim (Contains-append_cases (map (place_in first) m.unresolved) (unresolved_from (first + 1) ms) place there) [
+      elim (Contains-append_cases (map (place_in first) (spans_of m)) (places_from spans_of (first + 1) ms) place
+      there) [
         | inl here ↦ (
-            let of = mapped_from (place_in first) m.unresolved place here in
+            let of = mapped_from (place_in first) (spans_of m) place here in
             record {
               number = zero;
               document = m;
               numbered = refl;
               file = sym (ap (λ (p : FilePlace). p.file) of.2) ∙ omega arith;
-              listed = subst (Contains m.unresolved) (ap (λ (p : FilePlace). p.span) of.2) of.1;
+              listed = subst (Contains (spans_of m)) (ap (λ (p : FilePlace). p.span) of.2) of.1;
             })
         | inr more ↦ (
             let of = place_at (first + 1) ms place more in
@@ -155,26 +157,27 @@ module _ {Out : Type 0} where
       ]
 
   pub listed_from : (first : ℕ) (made : List (MadeDocument Out)) (number : ℕ) (document : MadeDocument Out)
-      → slice_get made number ≡ Some document → (span : Span) → Contains document.unresolved span
-      → Contains (unresolved_from first made) (place_in (first + number) span)
+      → slice_get made number ≡ Some document → (span : Span) → Contains (spans_of document) span
+      → Contains (places_from spans_of first made) (place_in (first + number) span)
   listed_from first [] number document at span there = absurd (none-some document at)
   listed_from first (m ∷ ms) zero document at span there =
-      let here : Contains m.unresolved span =
-      subst (λ (d : MadeDocument Out). Contains d.unresolved span) (sym (same_Some m document at)) there in
+      let here : Contains (spans_of m) span =
+      subst (λ (d : MadeDocument Out). Contains (spans_of d) span) (sym (same_Some m document at)) there in
       let zeroth : first ≡ first + 0 = omega arith in
-      subst (λ (n : ℕ). Contains (unresolved_from first (m ∷ ms)) (place_in n span)) zeroth
-      (Contains-append_left (map (place_in first) m.unresolved) (unresolved_from (first + 1) ms) (place_in first span)
-      (contains_map (place_in first) m.unresolved span here))
+      subst (λ (n : ℕ). Contains (places_from spans_of first (m ∷ ms)) (place_in n span)) zeroth
+      (Contains-append_left (map (place_in first) (spans_of m)) (places_from spans_of (first + 1) ms)
+      (place_in first span)
+      (contains_map (place_in first) (spans_of m) span here))
   listed_from first (m ∷ ms) (suc number) document at span there =
       let next : first + 1 + number ≡ first + suc number = omega arith in
-      subst (λ (n : ℕ). Contains (unresolved_from first (m ∷ ms)) (place_in n span)) next
-      (Contains-append_right (map (place_in first) m.unresolved) (unresolved_from (first + 1) ms)
+      subst (λ (n : ℕ). Contains (places_from spans_of first (m ∷ ms)) (place_in n span)) next
+      (Contains-append_right (map (place_in first) (spans_of m)) (places_from spans_of (first + 1) ms)
       (place_in (first + 1 + number) span)
       (listed_from (first + 1) ms number document at span there))
 
   pub none_from : (first : ℕ) (made : List (MadeDocument Out))
       → ((number : ℕ) (document : MadeDocument Out) → slice_get made number ≡ Some document
-      → document.unresolved ≡ []) → unresolved_from first made ≡ []
+      → spans_of document ≡ []) → places_from spans_of first made ≡ []
   none_from first [] none = refl
   none_from first (m ∷ ms) none =
       rw (none zero m refl) (none_from (first + 1) ms (λ number document at. none (suc number) document at))

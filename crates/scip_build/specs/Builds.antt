@@ -1,12 +1,12 @@
 -- What is built from a tree, and why nothing is.
 use Rattle.std.specs.Prelude.{◌≡◌, ◌⊎◌, ◌<◌, ℕ, ⊤, List, map}
-use Rattle.proto_decl.specs.declared.form.FactForm.{FactForm}
+use Rattle.scip_build.specs.declared.read_form.ReadForm.{ReadForm}
 use Rattle.proto_parse.specs.dialect.Dialect.{Dialect}
 use Rattle.proto_decl.specs.Values.{Seen}
 use Rattle.index_hooks.specs.declared.choice.Choice.{Choice}
 use Rattle.proto_visibility.specs.Linked.{CanBeLinked, HaveClearNames}
 use Rattle.scip_build.specs.FactForms.{form_of}
-use Rattle.scip_model.specs.Indexes.{IsIndexOf}
+use Rattle.scip_model.specs.Indexes.{IsIndexWith}
 use Rattle.scip_records.specs.declared.records.Index.{Index}
 use Rattle.scip_model.specs.Packages.{RepeatedNames, naming}
 use Rattle.scip_model.specs.Repeated.{AreRepeated}
@@ -21,22 +21,23 @@ use Rattle.scip_build.specs.Files.{ReadFile}
 use Rattle.scip_build.specs.Placing.{index_at}
 use Rattle.scip_build.specs.ParsedFiles.{AreParsedFiles, IsFirstFaulty}
 use Rattle.scip_build.specs.Linking.{linked_files, choices_of, MayRefuseParsed}
-use Rattle.scip_build.specs.Documents.{texts_of, IsAmbiguousAt, IsLeastUnresolved}
+use Rattle.scip_build.specs.Documents.{texts_of, asked_in, asks_in, IsAmbiguousAt, IsLeastUnresolved}
+use Rattle.scip_build.specs.Documents.{IsUnresolvedFirst}
 use Rattle.scip_build.specs.Kept.{AreKept, IsWithoutFault}
 
 -- What is built of files that were read: some are kept, and it is the index of these files, their texts, the recorded
 -- choices, the settings, and what is repeated among them; of the rest it is told why. If faults are refused, nothing is
--- told: so all files are kept, they can be linked, and each use of each source names a type.
+-- told: so all files are kept, they can be linked, each use of each source names a type, and no option has a gap.
 pub record IsBuiltOf (all : List ReadFile) (settings : Settings) (built : Built) : Type 0 where
   pub parsed : List ReadFile
-  pub kept : AreKept settings.duplicates all parsed built.told
+  pub kept : AreKept settings.duplicates (asks_in settings) all parsed built.told
   pub clear : HaveClearNames settings.duplicates (linked_files parsed)
-  pub refused : settings.faulty ≡ Refuse → IsWithoutFault settings.duplicates all parsed built.told
+  pub refused : settings.faulty ≡ Refuse → IsWithoutFault settings.duplicates (asks_in settings) all parsed built.told
   pub choices : built.choices ≡ map choices_of parsed
   pub repeated : RepeatedNames
   pub are_repeated : AreRepeated (linked_files parsed) repeated
-  pub index : IsIndexOf (linked_files parsed) (texts_of parsed) built.choices (naming settings.package repeated)
-      settings.encoding settings.project_root built.index
+  pub index : IsIndexWith (asked_in settings parsed) (linked_files parsed) (texts_of parsed) built.choices
+      (naming settings.package repeated) settings.encoding settings.project_root built.index
 
 -- what is built, with this index
 abbrev pub with_index : Index → Built → Built
@@ -54,14 +55,14 @@ pub record IsBuilt (allows : Seen → Choice → Type 0) (settings : Settings) (
   pub placed : built.index ≡ index_at settings.at plain
 
 -- this holds of some parsed files of the tree: so each source could be read
-abbrev pub OfParsed : (dialect : Dialect) → FactForm → (allows : Seen → Choice → Type 0) → List TreeFile
+abbrev pub OfParsed : (dialect : Dialect) → ReadForm → (allows : Seen → Choice → Type 0) → List TreeFile
     → (List ReadFile → Type 0) → Type 0
 OfParsed dialect form allows tree Holds =
     (parsed : List ReadFile) × AreParsedFiles Refuse dialect form allows tree parsed × Holds parsed
 
 -- Why a tree has no index: the first source that can't be read; else what the linking of its files refuses; else the
--- first use that names no type, or several; all this only if faults are refused. A thread is refused only if one is to be
--- started; nothing is said about memory.
+-- first use that names no type, or several; else the first gap of an option, if names in options are linked; all this
+-- only if faults are refused. A thread is refused only if one is to be started; nothing is said about memory.
 abbrev pub IsBuildFault : (allows : Seen → Choice → Type 0) → Settings → List TreeFile → (workers : ℕ) → BuildFault
     → Type 0
 IsBuildFault allows settings tree workers Spawn = 1 < workers
@@ -78,8 +79,8 @@ IsBuildFault allows settings tree workers (MissingImport place) =
     (λ parsed. MayRefuseParsed settings.duplicates parsed (MissingImport place))
 IsBuildFault allows settings tree workers (Unresolved place) =
     (settings.faulty ≡ Refuse) × OfParsed settings.dialect (form_of settings) allows tree
-    (λ parsed. CanBeLinked settings.duplicates (linked_files parsed) × IsLeastUnresolved (linked_files parsed) place
-    × (IsAmbiguousAt (linked_files parsed) place → ⊥))
+    (λ parsed. CanBeLinked settings.duplicates (linked_files parsed)
+    × IsUnresolvedFirst (asked_in settings parsed) parsed (linked_files parsed) place)
 IsBuildFault allows settings tree workers (Ambiguous place) =
     (settings.faulty ≡ Refuse) × OfParsed settings.dialect (form_of settings) allows tree
     (λ parsed. CanBeLinked settings.duplicates (linked_files parsed) × IsLeastUnresolved (linked_files parsed) place

@@ -1,5 +1,5 @@
 -- What a use of a kept file names that isn't told as uncertain, however files that can't be read are mended.
-use Rattle.std.specs.Prelude.{ℕ, List, Contains}
+use Rattle.std.specs.Prelude.{ℕ, Bool, List, Contains}
 use Rattle.proto_decl.specs.Facts.{Facts}
 use Rattle.proto_decl.specs.declared.uses.Use.{Use}
 use Rattle.proto_visibility.specs.declared.clash.Duplicates.{Duplicates}
@@ -25,8 +25,8 @@ IsNotUncertain told place = (behind : ℕ) → Contains told (Uncertain place be
 -- Then, if the use names something, it names the same in the whole tree once files that can't be read are mended, in any
 -- way in which nothing clashes.
 abbrev pub CertainUsesResolveAlike : Type 0
-CertainUsesResolveAlike = (duplicates : Duplicates) (all parsed : List ReadFile) (told : List Omission)
-    → HaveOwnPaths (linked_files all) → ArePresent all → (kept : AreKept duplicates all parsed told)
+CertainUsesResolveAlike = (duplicates : Duplicates) (asks : Bool) (all parsed : List ReadFile) (told : List Omission)
+    → HaveOwnPaths (linked_files all) → ArePresent all → (kept : AreKept duplicates asks all parsed told)
     → (mended : List File) → AreMended (linked_files all) mended → HaveOrigins mended
     → (number : ℕ) → IsSource (linked_files parsed) number
     → (facts : Facts) → HasFacts (linked_files parsed) number facts

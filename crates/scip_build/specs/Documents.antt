@@ -1,10 +1,11 @@
 -- The documents of sources that were read, and why they aren't made.
 use Rattle.std.specs.Prelude.{◌≡◌, ◌↔◌, ◌<◌, ◌⊎◌, ℕ, ⊤, Result, Ok, Err, Some, List, [], length, map, Contains}
-use Rattle.std.specs.Prelude.{MatchResult}
+use Rattle.std.specs.Prelude.{MatchResult, Bool, true, false, Option, None}
 use Rattle.std.specs.declared.cmp.Ordering.TheVariants.{Less}
 use Rattle.std.specs.Ordering.{nat_cmp}
 use Rattle.std.specs.Cmp.Lexicographic.{slice_cmp}
 use Rattle.std.specs.List.{slice_get}
+use Rattle.std.specs.Option.{unwrap_or}
 use Rattle.proto_decl.specs.Facts.{Facts}
 use Rattle.proto_decl.specs.declared.uses.Use.{Use}
 use Rattle.proto_link.specs.Targets.{IsUnresolved, IsUseFault}
@@ -15,10 +16,15 @@ use Rattle.proto_visibility.specs.Files.{File, HasFacts, IsSource}
 use Rattle.scip_records.specs.declared.records.Document.{Document}
 use Rattle.scip_model.specs.Chosen.{Chosen, HaveChoices}
 use Rattle.scip_model.specs.Conditions.{HaveGoodPaths, IsResolved, AllResolve, IsFirstUnresolved, UsesResolve, HasText}
-use Rattle.scip_model.specs.Indexes.{IsAscendingListOf, IsDocumentOf, document_cmp, HasDocument, HaveDocuments}
+use Rattle.scip_model.specs.Indexes.{IsAscendingListOf, IsDocumentWith, document_cmp, HasDocumentWith}
+use Rattle.scip_model.specs.Indexes.{HaveDocumentsWith}
+use Rattle.scip_model.specs.Options.{AreOptionGapsIf, HasGapIf}
 use Rattle.scip_build.specs.declared.settings.Settings.{Settings}
 use Rattle.scip_model.specs.Conditions.{AreUnresolvedUses}
-use Rattle.scip_model.specs.declared.source_document.SourceDocument.{SourceDocument}
+use Rattle.scip_model.specs.declared.source_document.PlannedWithOptions.{PlannedWithOptions}
+use Rattle.option_link.specs.declared.facts.OptionFacts.{OptionFacts}
+use Rattle.option_link.specs.Beside.{nothing_beside}
+use Rattle.scip_build.specs.Parsed.{asks_options}
 use Rattle.scip_build.specs.declared.faulty.Faulty.{Faulty}
 use Rattle.scip_build.specs.declared.faulty.Faulty.TheVariants.{Refuse}
 use Rattle.scip_build.specs.declared.fault.FileFault.{FileFault}
@@ -38,6 +44,26 @@ text_of parsed_file = text_in parsed_file.contents
 
 abbrev pub texts_of : List ReadFile → List (List ℕ)
 texts_of parsed = map text_of parsed
+
+-- what is known of a file beside its facts; nothing, if it has no contents
+abbrev pub beside_in : Result FileContents FileFault → OptionFacts
+beside_in (Ok contents) = unwrap_or contents.beside nothing_beside
+beside_in (Err fault) = nothing_beside
+
+abbrev pub known_in : List ReadFile → List OptionFacts
+known_in parsed = map (λ (parsed_file : ReadFile). beside_in parsed_file.contents) parsed
+
+-- the same, if names in options are linked
+abbrev pub asked_if : (asks : Bool) → List ReadFile → Option (List OptionFacts)
+asked_if false parsed = None
+asked_if true parsed = Some (known_in parsed)
+
+-- by the settings
+abbrev pub asks_in : Settings → Bool
+asks_in settings = asks_options settings.dialect settings.options
+
+abbrev pub asked_in : Settings → List ReadFile → Option (List OptionFacts)
+asked_in settings parsed = asked_if (asks_in settings) parsed
 
 -- the file with this number has contents, with this text
 pub record HasReadText (parsed : List ReadFile) (number : ℕ) (text : List ℕ) : Type 0 where
@@ -71,14 +97,17 @@ pub record SourceWork : Type 0 where
   pub settings : Settings
   pub count : ℕ
 
--- the document of the source with this number, and its uses that name no type; none if such are refused
+-- The document of the source with this number, its uses that name no type, and the gaps of its options, if names in
+-- options are linked. There are no such uses if they are refused.
 pub record IsDocumentAt (parsed : List ReadFile) (files : List File) (chosen : Chosen) (settings : Settings)
-    (number : ℕ) (made : SourceDocument) : Type 0 where
+    (number : ℕ) (made : PlannedWithOptions) : Type 0 where
   pub text : List ℕ
   pub has_text : HasReadText parsed number text
-  pub is : IsDocumentOf files chosen settings.package settings.encoding number text made.document
-  pub unresolved_uses : AreUnresolvedUses files number made.unresolved
-  pub refused : settings.faulty ≡ Refuse → made.unresolved ≡ []
+  pub is : IsDocumentWith (asked_in settings parsed) files chosen settings.package settings.encoding number text
+      made.planned.document
+  pub unresolved_uses : AreUnresolvedUses files number made.planned.unresolved
+  pub option_gaps : AreOptionGapsIf (asked_in settings parsed) files number text made.option_gaps
+  pub refused : settings.faulty ≡ Refuse → made.planned.unresolved ≡ []
 
 -- why a source has no document: its first use that names no type, if such are refused; nothing is said about memory
 abbrev pub MayRefuseSource : Faulty → List File → (number : ℕ) → NoDocument → Type 0
@@ -96,7 +125,7 @@ fault_of_source number (lacking.Unresolved span) = build.Unresolved (record { fi
 
 -- what the making of a document gives
 abbrev pub GivesDocument : List ReadFile → List File → Chosen → Settings → (number : ℕ)
-    → Result SourceDocument NoDocument → Type 0
+    → Result PlannedWithOptions NoDocument → Type 0
 GivesDocument parsed files chosen settings number result =
     MatchResult result (IsDocumentAt parsed files chosen settings number)
     (MayRefuseSource settings.faulty files number)
@@ -121,22 +150,54 @@ pub record IsUnresolvedAt (files : List File) (place : FilePlace) : Type 0 where
 abbrev pub IsToldUse : List File → FilePlace → LinkFault → Type 0
 IsToldUse files place fault = IsSource files place.file × IsUseFault files place.file fault
 
--- The documents of all sources, one of each, by path, and all uses of the sources that name no type; none if such are
--- refused.
+-- where names in options are linked: an option of a source has its gap at this place
+pub record IsGapAt (asked : Option (List OptionFacts)) (parsed : List ReadFile) (files : List File)
+    (place : FilePlace) : Type 0 where
+  pub source : IsSource files place.file
+  pub text : List ℕ
+  pub has_text : HasReadText parsed place.file text
+  pub gap : HasGapIf asked files place.file text place.span
+
+-- no option of a source has a gap
+abbrev pub HaveNoGaps : (asked : Option (List OptionFacts)) → List ReadFile → List File → Type 0
+HaveNoGaps asked parsed files = (place : FilePlace) → IsGapAt asked parsed files place → ⊥
+
+-- The documents of all sources, one of each, by path, all uses of the sources that name no type, and all gaps of their
+-- options, if names in options are linked. There are no such uses if they are refused.
 pub record AreDocuments (parsed : List ReadFile) (files : List File) (chosen : Chosen) (settings : Settings)
-    (documents : List Document) (unresolved_uses : List FilePlace) : Type 0 where
+    (documents : List Document) (unresolved_uses option_gaps : List FilePlace) : Type 0 where
   pub decided : AllAreDecided files
   pub unresolved : (place : FilePlace) → Contains unresolved_uses place ↔ IsUnresolvedAt files place
+  pub gaps : (place : FilePlace) → Contains option_gaps place ↔ IsGapAt (asked_in settings parsed) parsed files place
   pub refused : settings.faulty ≡ Refuse → AllResolve files × (unresolved_uses ≡ [])
-  pub list : IsAscendingListOf document_cmp
-      (HasDocument files (texts_of parsed) chosen settings.package settings.encoding) documents
-  pub each : HaveDocuments files (texts_of parsed) chosen settings.package settings.encoding documents
+  pub list : IsAscendingListOf document_cmp (HasDocumentWith (asked_in settings parsed) files (texts_of parsed) chosen
+      settings.package settings.encoding) documents
+  pub each : HaveDocumentsWith (asked_in settings parsed) files (texts_of parsed) chosen settings.package
+      settings.encoding documents
 
 -- the first use that names no type, of the first source in which one does
 pub record IsLeastUnresolved (files : List File) (place : FilePlace) : Type 0 where
   pub source : IsSource files place.file
   pub first : IsFirstUnresolved files place.file place.span
   pub before : (lesser : ℕ) → lesser < place.file → IsSource files lesser → UsesResolve files lesser
+
+-- a place comes before another: it is in a lower file, or in the same one and starts before it, or ends before it if
+-- both start at once
+abbrev pub ComesBefore : (place other : FilePlace) → Type 0
+ComesBefore place other = (place.file < other.file) ⊎ ((place.file ≡ other.file)
+    × ((place.span.start < other.span.start) ⊎ ((place.span.start ≡ other.span.start)
+    × (place.span.end < other.span.end))))
+
+-- the first of the places of which this holds
+pub record IsFirstPlace (Holds : FilePlace → Type 0) (place : FilePlace) : Type 0 where
+  pub holds : Holds place
+  pub first : (other : FilePlace) → Holds other → ComesBefore other place → ⊥
+
+-- the first gap of an option, where each use names a type
+pub record IsLeastGap (asked : Option (List OptionFacts)) (parsed : List ReadFile) (files : List File)
+    (place : FilePlace) : Type 0 where
+  pub resolved : AllResolve files
+  pub least : IsFirstPlace (IsGapAt asked parsed files) place
 
 -- Why the documents aren't made: a use, if such are refused. A thread is refused only if one is to be started;
 -- nothing is said about memory.
@@ -153,12 +214,19 @@ IsToldFor files (build.Unresolved place) told =
     ⊎ (((told ≡ build.Ambiguous place) × IsAmbiguousAt files place) ⊎ (told ≡ build.Memory))
 IsToldFor files fault told = told ≡ fault
 
+-- What is unresolved at this place: the first use that names nothing, if it isn't ambiguous; or, where each use names a
+-- type, the first gap of an option.
+abbrev pub IsUnresolvedFirst : (asked : Option (List OptionFacts)) → List ReadFile → List File → FilePlace → Type 0
+IsUnresolvedFirst asked parsed files place =
+    (IsLeastUnresolved files place × (IsAmbiguousAt files place → ⊥)) ⊎ IsLeastGap asked parsed files place
+
 -- why linked files make nothing: of the first use that names nothing, if such are refused, it is told whether it is
--- ambiguous
-pub data MayRefuseLinked (faulty : Faulty) (files : List File) (workers : ℕ) : BuildFault → Type 0 where
-  linked_lack_thread : 1 < workers → MayRefuseLinked faulty files workers build.Spawn
-  linked_lack_memory : MayRefuseLinked faulty files workers build.Memory
-  least_is_unresolved : {place : FilePlace} → faulty ≡ Refuse → IsLeastUnresolved files place
-      → (IsAmbiguousAt files place → ⊥) → MayRefuseLinked faulty files workers (build.Unresolved place)
+-- ambiguous; if there is none, it is the first gap of an option
+pub data MayRefuseLinked (faulty : Faulty) (asked : Option (List OptionFacts)) (parsed : List ReadFile)
+    (files : List File) (workers : ℕ) : BuildFault → Type 0 where
+  linked_lack_thread : 1 < workers → MayRefuseLinked faulty asked parsed files workers build.Spawn
+  linked_lack_memory : MayRefuseLinked faulty asked parsed files workers build.Memory
+  first_is_without_target : {place : FilePlace} → faulty ≡ Refuse → IsUnresolvedFirst asked parsed files place
+      → MayRefuseLinked faulty asked parsed files workers (build.Unresolved place)
   least_is_ambiguous : {place : FilePlace} → faulty ≡ Refuse → IsLeastUnresolved files place
-      → IsAmbiguousAt files place → MayRefuseLinked faulty files workers (build.Ambiguous place)
+      → IsAmbiguousAt files place → MayRefuseLinked faulty asked parsed files workers (build.Ambiguous place)

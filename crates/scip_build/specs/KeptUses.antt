@@ -1,5 +1,5 @@
 -- What a use of a kept file names, among all files and among those that are kept.
-use Rattle.std.specs.Prelude.{◌≡◌, ◌<◌, ℕ, List, length, map}
+use Rattle.std.specs.Prelude.{◌≡◌, ◌<◌, ℕ, Bool, List, length, map}
 use Rattle.proto_decl.specs.declared.uses.Use.{Use}
 use Rattle.proto_visibility.specs.declared.lookup.Entity.{Entity}
 use Rattle.proto_visibility.specs.declared.lookup.Entity.TheVariants.{Package, Declared}
@@ -48,7 +48,7 @@ pub record ResolveAlike (all linked : List File) (omissions : Omissions) (number
       → NamesTheSame linked omissions number type_use target
 
 abbrev pub KeptResolvesAlike : Type 0
-KeptResolvesAlike = (duplicates : Duplicates) (all parsed : List ReadFile) (told : List Omission)
-    (kept : AreKept duplicates all parsed told)
+KeptResolvesAlike = (duplicates : Duplicates) (asks : Bool) (all parsed : List ReadFile) (told : List Omission)
+    (kept : AreKept duplicates asks all parsed told)
     → (number : ℕ) (type_use : Use) → number < length (kept_numbers 0 kept.omissions)
     → ResolveAlike (linked_files all) (linked_files parsed) kept.omissions number type_use

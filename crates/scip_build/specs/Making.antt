@@ -1,12 +1,12 @@
 -- What is made of files that were read, and why it isn't.
-use Rattle.std.specs.Prelude.{◌≡◌, ◌↔◌, ◌<◌, ℕ, ⊤, List, [], Contains}
+use Rattle.std.specs.Prelude.{◌≡◌, ◌↔◌, ◌<◌, ℕ, ⊤, Bool, List, [], Contains}
 use Rattle.proto_visibility.specs.Files.{File}
 use Rattle.proto_visibility.specs.declared.clash.Duplicates.{Duplicates}
 use Rattle.proto_visibility.specs.Linked.{CanBeLinked}
 use Rattle.scip_records.specs.declared.records.Index.{Index}
 use Rattle.scip_model.specs.Chosen.{Chosen}
 use Rattle.scip_model.specs.Conditions.{AllResolve}
-use Rattle.scip_model.specs.Indexes.{IsIndexOf}
+use Rattle.scip_model.specs.Indexes.{IsIndexWith}
 use Rattle.proto_visibility.specs.declared.files.FilePlace.{FilePlace}
 use Rattle.scip_build.specs.declared.settings.Settings.{Settings}
 use Rattle.scip_build.specs.declared.faulty.Faulty.TheVariants.{Refuse}
@@ -14,30 +14,34 @@ use Rattle.scip_build.specs.declared.fault.BuildFault.{BuildFault}
 use Rattle.scip_build.specs.declared.fault.BuildFault.TheVariants as build
 use Rattle.scip_build.specs.Files.{ReadFile}
 use Rattle.scip_build.specs.Linking.{linked_files, MayRefuseParsed}
-use Rattle.scip_build.specs.Documents.{texts_of, AllAreDecided, IsAmbiguousAt, IsUnresolvedAt, IsLeastUnresolved}
+use Rattle.scip_build.specs.Documents.{texts_of, asked_if, asked_in, AllAreDecided, IsAmbiguousAt, IsUnresolvedAt}
+use Rattle.scip_build.specs.Documents.{IsGapAt, IsLeastUnresolved, IsUnresolvedFirst}
 
--- The index is that of the files, and these are the uses of sources that name no type: none if such are refused.
+-- The index is that of the files, these are the uses of sources that name no type, none if such are refused, and these
+-- the gaps of their options.
 pub record IsMade (parsed : List ReadFile) (files : List File) (chosen : Chosen) (settings : Settings)
-    (index : Index) (unresolved_uses : List FilePlace) : Type 0 where
+    (index : Index) (unresolved_uses option_gaps : List FilePlace) : Type 0 where
   pub decided : AllAreDecided files
   pub unresolved : (place : FilePlace) → Contains unresolved_uses place ↔ IsUnresolvedAt files place
+  pub gaps : (place : FilePlace) → Contains option_gaps place ↔ IsGapAt (asked_in settings parsed) parsed files place
   pub refused : settings.faulty ≡ Refuse → AllResolve files × (unresolved_uses ≡ [])
-  pub is : IsIndexOf files (texts_of parsed) chosen settings.package settings.encoding settings.project_root index
+  pub is : IsIndexWith (asked_in settings parsed) files (texts_of parsed) chosen settings.package settings.encoding
+      settings.project_root index
 
 -- why files that were read make no index
-abbrev pub MayRefuseMaking : Duplicates → List ReadFile → (workers : ℕ) → BuildFault → Type 0
-MayRefuseMaking duplicates parsed workers build.Spawn = 1 < workers
-MayRefuseMaking duplicates parsed workers build.Memory = ⊤
-MayRefuseMaking duplicates parsed workers (build.File number fault) =
+abbrev pub MayRefuseMaking : Duplicates → (asks : Bool) → List ReadFile → (workers : ℕ) → BuildFault → Type 0
+MayRefuseMaking duplicates asks parsed workers build.Spawn = 1 < workers
+MayRefuseMaking duplicates asks parsed workers build.Memory = ⊤
+MayRefuseMaking duplicates asks parsed workers (build.File number fault) =
     MayRefuseParsed duplicates parsed (build.File number fault)
-MayRefuseMaking duplicates parsed workers (build.Duplicate first second) =
+MayRefuseMaking duplicates asks parsed workers (build.Duplicate first second) =
     MayRefuseParsed duplicates parsed (build.Duplicate first second)
-MayRefuseMaking duplicates parsed workers (build.MissingImport place) =
+MayRefuseMaking duplicates asks parsed workers (build.MissingImport place) =
     MayRefuseParsed duplicates parsed (build.MissingImport place)
-MayRefuseMaking duplicates parsed workers (build.Unresolved place) =
-    CanBeLinked duplicates (linked_files parsed) × IsLeastUnresolved (linked_files parsed) place
-    × (IsAmbiguousAt (linked_files parsed) place → ⊥)
-MayRefuseMaking duplicates parsed workers (build.Ambiguous place) =
+MayRefuseMaking duplicates asks parsed workers (build.Unresolved place) =
+    CanBeLinked duplicates (linked_files parsed)
+    × IsUnresolvedFirst (asked_if asks parsed) parsed (linked_files parsed) place
+MayRefuseMaking duplicates asks parsed workers (build.Ambiguous place) =
     CanBeLinked duplicates (linked_files parsed) × IsLeastUnresolved (linked_files parsed) place
     × IsAmbiguousAt (linked_files parsed) place
 

@@ -1,5 +1,5 @@
 -- What the bytes of a file say, and why they say nothing (proto3 and proto2 language specifications).
-use Rattle.std.specs.Prelude.{◌≡◌, ◌⊎◌, ℕ, List}
+use Rattle.std.specs.Prelude.{◌≡◌, ◌⊎◌, ℕ, Bool, true, false, Option, None, Some, List, []}
 use Rattle.proto_lex.specs.Text.{IsText, IsNoText}
 use Rattle.proto_lex.specs.Lexed.{Lexed, IsLexed}
 use Rattle.proto_lex.specs.Faults.{IsFirstFault}
@@ -13,6 +13,9 @@ use Rattle.proto_parse.specs.fault.SyntaxFault.{SyntaxFault}
 use Rattle.proto_parse.specs.Derives.{Derives}
 use Rattle.proto_parse.specs.Refused.{HasFault}
 use Rattle.proto_decl.specs.Facts.{Facts, AreFactsOf}
+use Rattle.proto_options.specs.Fields.{fields_in}
+use Rattle.proto_options.specs.Options.{AreOptionsOf}
+use Rattle.option_link.specs.declared.facts.OptionFacts.{OptionFacts}
 use Rattle.scip_build.specs.declared.fault.FileFault.{FileFault}
 use Rattle.scip_build.specs.declared.fault.FileFault.TheVariants.{Lex, Syntax}
 
@@ -37,6 +40,28 @@ pub record AreFactsIn (dialect : Dialect) (form : FactForm) (number : ℕ) (byte
   pub lexing : HasLexing bytes lexed
   pub derives : Derives dialect lexed.text lexed.tokens tree
   pub of_tree : AreFactsOf (form_by dialect form) number lexed tree facts
+
+-- What is known beside the facts of a file with these bytes: its options, if it is a source, and its fields. An
+-- included file has no document, so its options aren't looked at.
+pub record IsBesideIn (bytes : List ℕ) (is_included : Bool) (beside : OptionFacts) : Type 0 where
+  pub lexed : Lexed
+  pub tree : File
+  pub lexing : HasLexing bytes lexed
+  pub derives : Derives All lexed.text lexed.tokens tree
+  pub of_source : is_included ≡ false → AreOptionsOf All lexed tree beside.options
+  pub of_included : is_included ≡ true → beside.options ≡ []
+  pub fields : beside.fields ≡ fields_in tree
+
+-- names in options are linked in the dialect of all sources only
+abbrev pub asks_options : Dialect → (options : Bool) → Bool
+asks_options (Proto3 custom) options = false
+asks_options All options = options
+
+-- the same, if it is asked for
+abbrev pub IsBesideIf : (asked : Bool) → (bytes : List ℕ) → (is_included : Bool) → Option OptionFacts → Type 0
+IsBesideIf false bytes is_included beside = beside ≡ None
+IsBesideIf true bytes is_included None = ⊥
+IsBesideIf true bytes is_included (Some beside) = IsBesideIn bytes is_included beside
 
 -- the bytes are no text, or the text has no lexing
 abbrev pub IsUnlexed : List ℕ → LexFault → Type 0

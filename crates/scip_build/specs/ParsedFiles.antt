@@ -16,7 +16,8 @@ use Rattle.scip_build.specs.declared.fault.BuildFault.{BuildFault}
 use Rattle.scip_build.specs.declared.fault.BuildFault.TheVariants.{Spawn, Memory, File}
 use Rattle.scip_build.specs.declared.file_parsing.NoContents.{NoContents}
 use Rattle.scip_build.specs.declared.file_parsing.NoContents.TheVariants as lacking
-use Rattle.scip_build.specs.Parsed.{AreFactsIn, IsUnreadable}
+use Rattle.scip_build.specs.declared.read_form.ReadForm.{ReadForm}
+use Rattle.scip_build.specs.Parsed.{AreFactsIn, IsBesideIf, IsUnreadable, asks_options}
 use Rattle.source_tree.specs.Files.{TreeFile}
 use Rattle.scip_build.specs.Files.{FileContents, ReadFile}
 
@@ -42,10 +43,11 @@ pub record IsReadAs (dialect : Dialect) (form : FactForm) (allows : Seen → Cho
   pub chosen : AreChosen allows facts.declarations choices
 
 -- the contents of the file with this number and these bytes
-abbrev pub AreContentsOf : Dialect → FactForm → (allows : Seen → Choice → Type 0) → (number : ℕ) → (bytes : List ℕ)
-    → FileContents → Type 0
-AreContentsOf dialect form allows number bytes contents =
-    (contents.text ≡ bytes) × IsReadAs dialect form allows number bytes contents.facts contents.choices
+abbrev pub AreContentsOf : Dialect → ReadForm → (is_included : Bool) → (allows : Seen → Choice → Type 0)
+    → (number : ℕ) → (bytes : List ℕ) → FileContents → Type 0
+AreContentsOf dialect form is_included allows number bytes contents =
+    (contents.text ≡ bytes) × IsReadAs dialect form.facts allows number bytes contents.facts contents.choices
+    × IsBesideIf (asks_options dialect form.options) bytes is_included contents.beside
 
 -- a file may be without contents if it is included, and any may if it isn't refused for it
 abbrev pub may_be_unread : Faulty → (is_included : Bool) → Bool
@@ -53,15 +55,15 @@ may_be_unread Refuse is_included = is_included
 may_be_unread Skip is_included = true
 
 -- the contents of a file, or, if it may be without, why it has none
-abbrev pub HasContents : Faulty → Dialect → FactForm → (allows : Seen → Choice → Type 0) → (number : ℕ) → TreeFile
+abbrev pub HasContents : Faulty → Dialect → ReadForm → (allows : Seen → Choice → Type 0) → (number : ℕ) → TreeFile
     → Result FileContents FileFault → Type 0
 HasContents faulty dialect form allows number file (Ok contents) =
-    AreContentsOf dialect form allows number file.text contents
+    AreContentsOf dialect form file.is_included allows number file.text contents
 HasContents faulty dialect form allows number file (Err fault) =
     (may_be_unread faulty file.is_included ≡ true) × IsUnreadable dialect file.text fault
 
 -- a file after it was read
-pub record IsParsedFile (faulty : Faulty) (dialect : Dialect) (form : FactForm) (allows : Seen → Choice → Type 0)
+pub record IsParsedFile (faulty : Faulty) (dialect : Dialect) (form : ReadForm) (allows : Seen → Choice → Type 0)
     (number : ℕ) (file : TreeFile) (parsed_file : ReadFile) : Type 0 where
   pub path : parsed_file.path ≡ file.path
   pub is_included : parsed_file.is_included ≡ file.is_included
@@ -69,7 +71,7 @@ pub record IsParsedFile (faulty : Faulty) (dialect : Dialect) (form : FactForm) 
   pub contents : HasContents faulty dialect form allows number file parsed_file.contents
 
 -- the files after they were read, each under its number
-pub record AreParsedFiles (faulty : Faulty) (dialect : Dialect) (form : FactForm) (allows : Seen → Choice → Type 0)
+pub record AreParsedFiles (faulty : Faulty) (dialect : Dialect) (form : ReadForm) (allows : Seen → Choice → Type 0)
     (files : List TreeFile) (parsed : List ReadFile) : Type 0 where
   pub one_each : length parsed ≡ length files
   pub each : (number : ℕ) (file : TreeFile) (parsed_file : ReadFile) → slice_get files number ≡ Some file
@@ -110,7 +112,7 @@ MayRefuseParsing faulty dialect file lacking.Memory = ⊤
 MayRefuseParsing faulty dialect file (lacking.Unreadable fault) = (faulty ≡ Refuse) × IsFaultySource dialect file fault
 
 -- what the parsed file of the file with this number gives
-abbrev pub GivesParsedFile : Faulty → Dialect → FactForm → (allows : Seen → Choice → Type 0) → List TreeFile → ℕ
+abbrev pub GivesParsedFile : Faulty → Dialect → ReadForm → (allows : Seen → Choice → Type 0) → List TreeFile → ℕ
     → Result ReadFile NoContents → Type 0
 GivesParsedFile faulty dialect form allows files number result =
     IfSome (slice_get files number)

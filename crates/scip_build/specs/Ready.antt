@@ -1,10 +1,11 @@
 -- What holds of files that were read from a tree, and so of those of them that are kept.
-use Rattle.std.specs.Prelude.{◌≡◌, ◌<◌, ◌≤◌, ℕ, false, ⊤, Result, Ok, Err, Some, List, length}
+use Rattle.std.specs.Prelude.{◌≡◌, ◌<◌, ◌≤◌, ℕ, false, ⊤, Result, Ok, Err, Some, List, length, map}
 use Rattle.std.specs.declared.cmp.Ordering.{Ordering}
 use Rattle.std.specs.declared.cmp.Ordering.TheVariants.{Less}
 use Rattle.std.specs.Ordering.{nat_cmp, bool_cmp, ordering_then}
 use Rattle.std.specs.Cmp.Lexicographic.{slice_cmp}
 use Rattle.std.specs.List.{slice_get}
+use Rattle.std.specs.List.Sorted.{IsStrictlyIncreasing}
 use Rattle.proto_decl.specs.declared.declaration.Declaration.{Declaration}
 use Rattle.index_hooks.specs.declared.choice.Choice.{Choice}
 use Rattle.index_pool.specs.declared.workers.TheConstants.{MAX_INPUTS}
@@ -14,6 +15,7 @@ use Rattle.scip_model.specs.Conditions.{AreOfText}
 use Rattle.scip_build.specs.declared.fault.FileFault.{FileFault}
 use Rattle.scip_build.specs.Files.{FileContents, ReadFile}
 use Rattle.scip_build.specs.Linking.{linked_files}
+use Rattle.scip_build.specs.Documents.{beside_in}
 
 -- the facts are those of the text, and each declaration has a choice
 pub record AreWhole (contents : FileContents) : Type 0 where
@@ -25,9 +27,14 @@ abbrev pub AreWholeIfRead : Result FileContents FileFault → Type 0
 AreWholeIfRead (Ok contents) = AreWhole contents
 AreWholeIfRead (Err fault) = ⊤
 
+-- the fields that are known of a file stand in order of place
+abbrev pub HasFieldsInOrder : Result FileContents FileFault → Type 0
+HasFieldsInOrder contents = IsStrictlyIncreasing (map (λ fact. fact.name.start) (beside_in contents).fields)
+
 pub record IsOfTree (parsed_file : ReadFile) : Type 0 where
   pub good : IsGoodPath parsed_file.path
   pub contents : AreWholeIfRead parsed_file.contents
+  pub fields : HasFieldsInOrder parsed_file.contents
 
 -- sources before included files, behind these those that are left out, and each of these by path
 abbrev pub parsed_file_cmp : ReadFile → ReadFile → Ordering

@@ -17,7 +17,7 @@ use Rattle.proto_link.specs.Uncertain.{IsUncertain}
 use Rattle.proto_visibility.specs.Kept.{Omissions, IsOmission, AreOmissions}
 use Rattle.scip_build.specs.declared.omission.Omission.{Omission}
 use Rattle.scip_build.specs.declared.omission.Omission.TheVariants.{MissingImport, Unresolved, Ambiguous}
-use Rattle.scip_build.specs.declared.omission.Omission.TheVariants.{Uncertain}
+use Rattle.scip_build.specs.declared.omission.Omission.TheVariants.{OptionGap, Uncertain}
 use Rattle.scip_build.specs.Files.{ReadFile}
 use Rattle.scip_build.specs.Linking.{linked_files}
 use Rattle.scip_build.specs.Kept.{IsLeftFor, told_cmp}
@@ -73,6 +73,10 @@ abbrev pub told_uncertain : List ℕ → UncertainUse → Omission
 told_uncertain numbers uncertain =
     Uncertain (place_by numbers uncertain.place) (number_in numbers uncertain.behind)
 
+-- what is told of an option that has a gap
+abbrev pub told_gap : List ℕ → FilePlace → Omission
+told_gap numbers place = OptionGap (place_by numbers place)
+
 -- these are the uses of files that may name another type
 abbrev pub AreUncertainUses : List File → List UncertainUse → Type 0
 AreUncertainUses files uses = (uncertain : UncertainUse) → Contains uses uncertain ↔ IsUncertain files uncertain
@@ -106,10 +110,10 @@ pub record AreInOrder (told once : List Omission) : Type 0 where
   pub rising : IsStrictlySortedBy told_cmp once
 
 abbrev pub all_told : (left : List Omission) → (numbers : List ℕ) → List FilePlace → List LinkFault
-    → List UncertainUse → List Omission
-all_told left numbers imports faults uncertain =
-    ((left ++ map (told_import numbers) imports) ++ flat_map (told_use numbers) faults)
-    ++ map (told_uncertain numbers) uncertain
+    → List UncertainUse → List FilePlace → List Omission
+all_told left numbers imports faults uncertain gaps =
+    (((left ++ map (told_import numbers) imports) ++ flat_map (told_use numbers) faults)
+    ++ map (told_uncertain numbers) uncertain) ++ map (told_gap numbers) gaps
 
 -- the files as they are linked, their numbers among all, and what is told of those that are left out
 pub record AreKeptFiles (duplicates : Duplicates) (all parsed : List ReadFile) (numbers : List ℕ)

@@ -1,14 +1,16 @@
 //! From a tree to its index.
 
-ghost use Rattle.std.specs.Prelude.{◌≡◌, ◌≤◌, IfOk, IfErr, MatchResult};
+ghost use Rattle.std.specs.Prelude.{◌≡◌, ◌≤◌, true, false, length, IfOk, IfErr, MatchOption, MatchResult};
 ghost use Rattle.index_pool.specs.declared.workers.TheConstants.{MAX_INPUTS};
 ghost use Rattle.proto_visibility.specs.Absences.{AreMissing};
 ghost use Rattle.proto_visibility.specs.Linked.{HaveClearNames};
-ghost use Rattle.scip_model.specs.Indexes.{metadata_of};
+ghost use Rattle.option_link.specs.Fields.{AreInOrder};
+ghost use Rattle.scip_model.specs.Indexes.{metadata_of, AreExternalsWith};
 ghost use Rattle.scip_build.specs.FactForms.{form_of};
 ghost use Rattle.scip_build.specs.declared.faulty.Faulty.TheVariants.{Refuse, Skip};
 ghost use Rattle.scip_build.specs.Linking.{linked_files};
-ghost use Rattle.scip_build.specs.Documents.{MayRefuseLinked};
+ghost use Rattle.scip_build.specs.Documents as spec;
+ghost use Rattle.scip_build.specs.Documents.{asked_in, asks_in, known_in, MayRefuseLinked};
 ghost use Rattle.scip_build.specs.Telling.{AreUncertainUses, AreUseFaults};
 ghost use Rattle.scip_build.specs.Ready.{AreOfTree, ArePresent};
 ghost use Rattle.scip_build.specs.Making.{MayRefuseMaking, MayRefuseSkipping};
@@ -16,7 +18,7 @@ ghost use Rattle.scip_build.specs.Placing.{kept_at};
 ghost use Rattle.scip_build.specs.Forms.{index_of, IsMadeOf, IsLinkedAndMade, IsBuiltOfInForm};
 ghost use Rattle.scip_build.specs.Forms.{IsBuiltInForm};
 ghost use Rattle.scip_build.specs.Builds.{IsBuilt, IsBuildFault};
-ghost use Rattle.scip_build.specs.Works.{IsReady, MayRefuseAny, IsMadeFrom};
+ghost use Rattle.scip_build.specs.Works.{AreLent, HasOptions, IsReady, MayRefuseAny, IsMadeFrom};
 
 use crate::built::Built;
 use crate::chosen::chosen_lists;
@@ -24,26 +26,32 @@ use crate::document_form::{AsRecords, DocumentForm};
 use crate::fault::BuildFault;
 use crate::faulty::Faulty;
 use crate::keeping::{keep_files, sources_among};
+use crate::linked_options::{files_beside, texts_of};
 use crate::linked_sources::LinkedSources;
 use crate::linking::{link, linked_files};
 use crate::made::{KeptParts, Made};
+use crate::option_gaps::without_gaps;
+use crate::option_reading::asks_options;
 use crate::parsed_file::ParsedFile;
 use crate::parts::{BuiltParts, Parts};
 use crate::phase_one::parse_files;
 use crate::phase_two::make_documents;
+use crate::read_form::ReadForm;
 use crate::run::Run;
 use crate::settings::Settings;
 use crate::telling::tell;
-use crate::unresolved_uses::{documents_of, unresolved_of};
+use crate::unresolved_uses::{documents_of, option_gaps_of, unresolved_of};
 use crate::use_faults::{faults_at, refusal_by};
 use basics::tool::{NAME, VERSION};
 use basics::{OwnedText, Sequence};
 use index_hooks::Chooses;
 use index_pool::Gate;
+use option_link::{FilesBeside, OptionLinker};
 use proto_decl::FactForm;
 use proto_link::{FilePlace, Linker, kept_files_are_clear};
-use scip_model::{Choices, SymbolPackages, externals_in_packages};
-use scip_records::{Document, Index, Metadata, ToolInfo};
+use proto_options::fields_stand_in_order;
+use scip_model::{Choices, SymbolPackages, externals_in_packages, externals_with_options};
+use scip_records::{Document, Index, Metadata, SymbolInformation, ToolInfo};
 use source_tree::Tree;
 use std::alloc::{AllocError, Global};
 use std::sync::Wait;
@@ -66,24 +74,71 @@ fn metadata(alloc: Global, project_root: &OwnedText) -> Result<Metadata, AllocEr
     })
 }
 
-/// The parts of the index of linked files, and the uses that name no type: the documents come by path, so
-/// none is looked for.
+/// The external entries, with those that names in options name if they are linked.
+fn externals_of(
+    sources: &LinkedSources<'_, '_, '_, '_>,
+) -> Result<Sequence<SymbolInformation>, AllocError>
+    requires ready { IsReady sources.now }
+    requires options { HasOptions sources.now }
+    ensures { IfOk result (AreExternalsWith (asked_in sources.now.settings.now sources.now.parsed.now)
+        sources.now.package.now.files (spec.texts_of sources.now.parsed.now) sources.now.choices.now
+        sources.now.package.now.ids) }
+{
+    let alloc = sources.alloc;
+    match sources.options {
+        Some(options) => {
+            let texts = texts_of(alloc, sources.parsed)?;
+            externals_with_options(
+                alloc,
+                sources.package,
+                sources.choices,
+                options,
+                texts.as_slice(),
+            )
+        }
+        None => externals_in_packages(alloc, sources.package, sources.choices),
+    }
+}
+
+/// The options of linked files, if names in them are linked.
+fn options_if_asked<'n, 'a, 't>(
+    alloc: Global,
+    linker: &'n Linker<'a, 't>,
+    beside: &'n FilesBeside<'n>,
+    asked: bool,
+) -> Result<Option<OptionLinker<'n, 'a, 't>>, AllocError>
+    requires each { asked ≡ true → length beside.now ≡ length linker.now }
+    requires in_order { asked ≡ true → AreInOrder beside.now }
+    ensures { IfOk result (λ options. MatchOption options (asked ≡ false)
+        (λ linked. (asked ≡ true) × (linked ≡ record { files = linker.now; known = beside.now }))) }
+{
+    if !asked {
+        return Ok(None);
+    }
+    let options = OptionLinker::new(alloc, linker, beside)?;
+    Ok(Some(options))
+}
+
+/// The parts of the index of linked files, the uses that name no type, and the gaps of options: the documents come by
+/// path, so none is looked for.
 #[tactic(auto, using(crate::proofs::LinkingRefusalRules::of_documents))]
 fn make_parts<R: Threads + Wait, G: Gate, F: DocumentForm + Sync>(
     run: &Run<'_, R, G>,
     sources: &LinkedSources<'_, '_, '_, '_>,
     form: &F,
-) -> Result<(Parts<F::Kept>, Sequence<FilePlace>), BuildFault>
+) -> Result<(Parts<F::Kept>, Sequence<FilePlace>, Sequence<FilePlace>), BuildFault>
     requires few { sources.now.count ≤ MAX_INPUTS }
     requires ready { IsReady sources.now }
+    requires options { HasOptions sources.now }
     ensures { MatchResult result
-        (λ made. IsMadeFrom sources.now F.is_kept made.0 made.1)
+        (λ made. IsMadeFrom sources.now F.is_kept made.0 made.1 made.2)
         (MayRefuseAny sources.now run.now.workers) }
 {
     let made = make_documents(run, sources, form)?;
     let unresolved_uses = unresolved_of(run.alloc, made.as_slice())?;
+    let option_gaps = option_gaps_of(run.alloc, made.as_slice())?;
     let documents = documents_of(run.alloc, made)?;
-    let external_symbols = externals_in_packages(run.alloc, sources.package, sources.choices)?;
+    let external_symbols = externals_of(sources)?;
     let settings = sources.settings;
     let metadata = metadata(run.alloc, &settings.project_root)?;
     let parts = Parts {
@@ -91,7 +146,78 @@ fn make_parts<R: Threads + Wait, G: Gate, F: DocumentForm + Sync>(
         documents: Sequence::from_vec(documents),
         external_symbols,
     };
-    Ok((parts, Sequence::from_vec(unresolved_uses)))
+    Ok((
+        parts,
+        Sequence::from_vec(unresolved_uses),
+        Sequence::from_vec(option_gaps),
+    ))
+}
+
+/// What is made of linked files that were read, with these options if names in options are linked.
+#[tactic(auto, using(crate::proofs::LinkingRefusalRules::of_linked))]
+fn make_from<'l, 'f, R: Threads + Wait, G: Gate, F: DocumentForm + Sync>(
+    run: &Run<'_, R, G>,
+    linker: &Linker<'l, 'f>,
+    parsed: &[ParsedFile<'_>],
+    options: Option<&OptionLinker<'_, 'l, 'f>>,
+    settings: &Settings,
+    form: &F,
+) -> Result<Made<F::Kept>, BuildFault>
+    requires files { linker.now ≡ linked_files parsed.now }
+    requires tree { AreOfTree parsed.now }
+    requires clear { HaveClearNames settings.now.duplicates (linked_files parsed.now) }
+    requires options { AreLent (asked_in settings.now parsed.now) linker.now options }
+    ensures { MatchResult result
+        (IsMadeOf (kept_at settings.now.at F.is_kept) parsed.now settings.now)
+        (MayRefuseLinked settings.now.faulty (asked_in settings.now parsed.now) parsed.now (linked_files parsed.now)
+        run.now.workers) }
+{
+    let choices = Choices::new(chosen_lists(run.alloc, parsed)?);
+    let package = SymbolPackages::of(run.alloc, linker, &settings.package)?;
+    let sources = LinkedSources {
+        alloc: run.alloc,
+        package: &package,
+        parsed,
+        choices: &choices,
+        settings,
+        options,
+        count: sources_among(parsed),
+    };
+    let made = match make_parts(run, &sources, form) {
+        Ok(made) => made,
+        Err(fault) => return Err(refusal_by(run.alloc, linker, fault)),
+    };
+    let made = Made {
+        parts: made.0,
+        choices,
+        unresolved_uses: made.1,
+        option_gaps: made.2,
+    };
+    without_gaps(settings.faulty, made)
+}
+
+/// What is made of linked files that were read, by what is known beside their facts if names in options are linked.
+#[tactic(auto, using(crate::proofs::LinkingRefusalRules::of_linked))]
+fn make_with<'x, R: Threads + Wait, G: Gate, F: DocumentForm + Sync>(
+    run: &Run<'_, R, G>,
+    linker: &'x Linker<'_, '_>,
+    parsed: &[ParsedFile<'_>],
+    beside: &'x FilesBeside<'_>,
+    settings: &Settings,
+    form: &F,
+) -> Result<Made<F::Kept>, BuildFault>
+    requires files { linker.now ≡ linked_files parsed.now }
+    requires tree { AreOfTree parsed.now }
+    requires clear { HaveClearNames settings.now.duplicates (linked_files parsed.now) }
+    requires beside { asks_in settings.now ≡ true → beside.now ≡ known_in parsed.now }
+    ensures { MatchResult result
+        (IsMadeOf (kept_at settings.now.at F.is_kept) parsed.now settings.now)
+        (MayRefuseLinked settings.now.faulty (asked_in settings.now parsed.now) parsed.now (linked_files parsed.now)
+        run.now.workers) }
+{
+    let asked = asks_options(settings.dialect, settings.options);
+    let options = options_if_asked(run.alloc, linker, beside, asked)?;
+    make_from(run, linker, parsed, options.as_ref(), settings, form)
 }
 
 /// What is made of linked files that were read.
@@ -108,27 +234,12 @@ fn make_linked<R: Threads + Wait, G: Gate, F: DocumentForm + Sync>(
     requires clear { HaveClearNames settings.now.duplicates (linked_files parsed.now) }
     ensures { MatchResult result
         (IsMadeOf (kept_at settings.now.at F.is_kept) parsed.now settings.now)
-        (MayRefuseLinked settings.now.faulty (linked_files parsed.now) run.now.workers) }
+        (MayRefuseLinked settings.now.faulty (asked_in settings.now parsed.now) parsed.now (linked_files parsed.now)
+        run.now.workers) }
 {
-    let choices = Choices::new(chosen_lists(run.alloc, parsed)?);
-    let package = SymbolPackages::of(run.alloc, linker, &settings.package)?;
-    let sources = LinkedSources {
-        alloc: run.alloc,
-        package: &package,
-        parsed,
-        choices: &choices,
-        settings,
-        count: sources_among(parsed),
-    };
-    let made = match make_parts(run, &sources, form) {
-        Ok(made) => made,
-        Err(fault) => return Err(refusal_by(run.alloc, linker, fault)),
-    };
-    Ok(Made {
-        parts: made.0,
-        choices,
-        unresolved_uses: made.1,
-    })
+    let asked = asks_options(settings.dialect, settings.options);
+    let beside = files_beside(run.alloc, parsed, asked)?;
+    make_with(run, linker, parsed, &beside, settings, form)
 }
 
 /// What is made of all files that were read, if faults are refused.
@@ -142,7 +253,7 @@ fn make_whole<R: Threads + Wait, G: Gate, F: DocumentForm + Sync>(
     requires refuse { settings.now.faulty ≡ Refuse }
     ensures { MatchResult result
         (IsLinkedAndMade (kept_at settings.now.at F.is_kept) parsed.now settings.now)
-        (MayRefuseMaking settings.now.duplicates parsed.now run.now.workers) }
+        (MayRefuseMaking settings.now.duplicates (asks_in settings.now) parsed.now run.now.workers) }
 {
     let files = linked_files(run.alloc, parsed)?;
     let linker = link(run, parsed, files.as_slice(), settings.duplicates)?;
@@ -194,7 +305,7 @@ fn build_whole<'a, R: Threads + Wait, G: Gate, F: DocumentForm + Sync>(
     ensures { MatchResult result
         (λ built. IsBuiltOfInForm (kept_at settings.now.at F.is_kept) all.entry.items settings.now built.choices
         built.told built.parts)
-        (MayRefuseMaking settings.now.duplicates all.entry.items run.now.workers) }
+        (MayRefuseMaking settings.now.duplicates (asks_in settings.now) all.entry.items run.now.workers) }
 {
     let made = make_whole(run, all.as_slice(), settings, form)?;
     Ok(BuiltParts {
@@ -230,6 +341,7 @@ fn build_kept<'a, R: Threads + Wait, G: Gate, F: DocumentForm + Sync>(
         of_kept.missing.as_slice(),
         of_kept.faults.as_slice(),
         of_kept.uncertain.as_slice(),
+        of_kept.made.option_gaps.as_slice(),
     )?;
     Ok(BuiltParts {
         parts: of_kept.made.parts,
@@ -254,16 +366,21 @@ pub fn build_in_form<'a, R: Threads + Wait, C: Chooses + Sync, G: Gate, F: Docum
 {
     // From here on it is known that the files are those of a tree.
     tree.file_count();
-    let form_of_facts = FactForm {
+    fields_stand_in_order();
+    let facts = FactForm {
         comments: settings.comments,
         details: settings.details,
+    };
+    let form_of_files = ReadForm {
+        facts,
+        options: settings.options,
     };
     let all = parse_files(
         run,
         tree,
         chooser,
         settings.dialect,
-        form_of_facts,
+        form_of_files,
         settings.faulty,
     )?;
     match settings.faulty {
@@ -288,12 +405,13 @@ fn index_of(parts: Parts<Document>) -> Index
 /// is made.
 ///
 /// If faults are skipped, the files that have one are left out, and imports and uses that then name nothing don't
-/// occur; what is told beside the index is just these, and the uses that may name another type once a file can be read;
-/// and `Spawn` and `Memory` alone are refusals. Else nothing is
-/// told, and of the refusals the first is answered: `Spawn`, `Memory`, or the first source that can't be read; then
-/// the first included file that some source sees and that can't be read; then `Duplicate`, `MissingImport`; then
-/// `Spawn`, `Memory`, or the first use of the first source in which one names no type. A refused growth ends the step
-/// that it is in with `Memory`. File numbers, of refusals and of what is told, are those of the tree.
+/// occur; what is told beside the index is just these, the options that have gaps, if names in options are linked, and
+/// the uses that may name another type once a file can be read; and `Spawn` and `Memory` alone are refusals. Else
+/// nothing is told, and of the refusals the first is answered: `Spawn`, `Memory`, or the first source that can't be
+/// read; then the first included file that some source sees and that can't be read; then `Duplicate`, `MissingImport`;
+/// then `Spawn`, `Memory`, or the first use of the first source in which one names no type; then the first gap of an
+/// option. A refused growth ends the step that it is in with `Memory`. File numbers, of refusals and of what is told,
+/// are those of the tree.
 pub fn build<R: Threads + Wait, C: Chooses + Sync, G: Gate>(
     run: &Run<'_, R, G>,
     tree: &Tree,

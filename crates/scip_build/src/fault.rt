@@ -44,7 +44,9 @@ pub enum BuildFault {
     /// public ones of an included file that some source sees.
     #[error("an import of a file that isn't there, {0}")]
     MissingImport(FilePlace),
-    /// The first use that names no type, of the first source that has one, by the place of the whole use.
+    /// The first use that names no type, of the first source that has one, by the place of the whole use. If each use
+    /// names a type, and names in options are linked: the first option that has a gap, by the place of the first name
+    /// in it that names nothing, and should. These places are ordered by file number, then start, then end.
     #[error("a use that names no type, {0}")]
     Unresolved(FilePlace),
     /// The same, if it names no type since several of the files declare it which are seen. It never comes if no two files

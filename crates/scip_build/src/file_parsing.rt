@@ -1,19 +1,27 @@
 //! From the bytes of a file to its contents.
 
-ghost use Rattle.std.specs.Prelude.{◌≡◌, ◌<◌, ℕ, List, length, MatchResult};
+ghost use Rattle.std.specs.Prelude.{◌≡◌, ◌<◌, ℕ, true, List, length, IfErr, IfOk, MatchResult};
 ghost use Rattle.proto_lex.specs.Text.{IsText};
 ghost use Rattle.scip_build.specs.FileFaults.{fault_of_lexing, fault_of_parsing, MayRefuseFile};
-ghost use Rattle.scip_build.specs.Parsed.{form_by, AreFactsIn};
+ghost use Rattle.proto_parse.specs.dialect.Dialect.TheVariants.{All};
+ghost use Rattle.proto_parse.specs.Derives.{Derives};
+ghost use Rattle.proto_decl.specs.Declares.{package_spans};
+ghost use Rattle.proto_decl.specs.Names.{components_at};
+ghost use Rattle.scip_build.specs.declared.file_parsing.NoContents.TheVariants.{Memory};
+ghost use Rattle.scip_build.specs.Parsed.{asks_options, form_by, AreFactsIn, HasLexing, IsBesideIf};
 ghost use Rattle.scip_build.specs.ParsedFiles.{AreContentsOf, GivesParsedFile, IsParsedFile, MayRefuseParsing};
 
 use crate::choosing::choose_each;
 use crate::fault::FileFault;
 use crate::faulty::Faulty;
+use crate::option_reading::{asks_options, beside_of};
 use crate::parsed_file::{Contents, ParsedFile};
+use crate::read_form::ReadForm;
 use index_hooks::Chooses;
+use option_link::OptionFacts;
 use proto_decl::{FactForm, FileFacts, declare_with};
-use proto_lex::{LexFault, Text, lex};
-use proto_parse::{Dialect, SyntaxFault, parse_with};
+use proto_lex::{LexFault, Text, Tokens, lex};
+use proto_parse::{Dialect, File, SyntaxFault, parse_with};
 use source_tree::Tree;
 use std::alloc::{AllocError, Global};
 
@@ -24,7 +32,7 @@ pub(crate) struct Reader<'c, C> {
     pub(crate) alloc: Global,
     pub(crate) chooser: &'c C,
     pub(crate) dialect: Dialect,
-    pub(crate) form: FactForm,
+    pub(crate) form: ReadForm,
     pub(crate) faulty: Faulty,
 }
 
@@ -81,16 +89,51 @@ fn form_by(dialect: Dialect, form: FactForm) -> FactForm
     }
 }
 
-/// The facts of a text: it is lexed whole, then parsed, then declared.
+/// The facts of a text, and what is known beside them, if it is asked for.
+#[derive(Drop)]
+struct Known<'a> {
+    facts: FileFacts<'a>,
+    beside: Option<OptionFacts>,
+}
+
+/// What is known of a text beside its facts, if it is asked for. `Memory` is the only fault.
+fn beside_if_asked(
+    alloc: Global,
+    asked: bool,
+    lexed: &Tokens<'_, '_>,
+    tree: &File,
+    facts: &FileFacts<'_>,
+    is_included: bool,
+) -> Result<Option<OptionFacts>, NoContents>
+    requires derives { asked ≡ true → Derives All lexed.now.text lexed.now.tokens tree.now }
+    requires packaged { facts.now.package_name
+        ≡ components_at lexed.now.text (package_spans tree.now.package_name) }
+    ensures given { IfOk result (λ beside. (bytes : List ℕ) → HasLexing bytes lexed.now
+        → IsBesideIf asked bytes is_included beside) }
+    ensures refused { IfErr result (λ fault. fault ≡ Memory) }
+{
+    if !asked {
+        return Ok(None);
+    }
+    let beside = beside_of(alloc, lexed, tree, facts, is_included)?;
+    Ok(Some(beside))
+}
+
+/// The facts of a text: it is lexed whole, then parsed, then declared. Then its options are read, if they are asked
+/// for.
 fn facts_of<'a>(
     alloc: Global,
     number: usize,
     text: &Text<'a>,
     dialect: Dialect,
-    form: FactForm,
-) -> Result<FileFacts<'a>, NoContents>
+    form: ReadForm,
+    is_included: bool,
+) -> Result<Known<'a>, NoContents>
     requires { IsText text.now }
-    ensures { MatchResult result (AreFactsIn dialect form number text.now) (MayRefuseFile dialect text.now) }
+    ensures { MatchResult result
+        (λ known. AreFactsIn dialect form.facts number text.now known.facts
+        × IsBesideIf (asks_options dialect form.options) text.now is_included known.beside)
+        (MayRefuseFile dialect text.now) }
 {
     let lexed = match lex(alloc, text) {
         Ok(lexed) => lexed,
@@ -100,7 +143,10 @@ fn facts_of<'a>(
         Ok(tree) => tree,
         Err(fault) => return Err(unparsed(fault)),
     };
-    Ok(declare_with(alloc, form_by(dialect, form), number, &lexed, &tree)?)
+    let facts = declare_with(alloc, form_by(dialect, form.facts), number, &lexed, &tree)?;
+    let asked = asks_options(dialect, form.options);
+    let beside = beside_if_asked(alloc, asked, &lexed, &tree, &facts, is_included)?;
+    Ok(Known { facts, beside })
 }
 
 /// The contents of the file with this number, of which these bytes are read.
@@ -108,21 +154,31 @@ fn contents_of<'a, C: Chooses>(
     reader: &Reader<'_, C>,
     number: usize,
     bytes: &'a [u8],
+    is_included: bool,
 ) -> Result<Contents<'a>, NoContents>
     ensures { MatchResult result
-        (AreContentsOf reader.now.dialect reader.now.form (C.allows reader.now.chooser.now) number bytes.now)
+        (AreContentsOf reader.now.dialect reader.now.form is_included (C.allows reader.now.chooser.now) number
+        bytes.now)
         (MayRefuseFile reader.now.dialect bytes.now) }
 {
     let text = match Text::new(reader.alloc, bytes) {
         Ok(text) => text,
         Err(fault) => return Err(unlexed(fault)),
     };
-    let facts = facts_of(reader.alloc, number, &text, reader.dialect, reader.form)?;
-    let choices = choose_each(reader.alloc, reader.chooser, facts.declarations())?;
+    let known = facts_of(
+        reader.alloc,
+        number,
+        &text,
+        reader.dialect,
+        reader.form,
+        is_included,
+    )?;
+    let choices = choose_each(reader.alloc, reader.chooser, known.facts.declarations())?;
     Ok(Contents {
         text,
-        facts,
+        facts: known.facts,
         choices,
+        beside: known.beside,
     })
 }
 
@@ -141,7 +197,7 @@ fn read_parts<'a, C: Chooses>(
         (MayRefuseParsing reader.now.faulty reader.now.dialect
         (record { path = path.now; bytes = held; text = bytes.now; is_included = is_included })) }
 {
-    match contents_of(reader, number, bytes) {
+    match contents_of(reader, number, bytes, is_included) {
         Ok(contents) => Ok(ParsedFile {
             path,
             is_included,

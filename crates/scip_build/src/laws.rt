@@ -7,6 +7,7 @@ ghost use Rattle.scip_build.specs.KeptUses.{KeptResolvesAlike};
 ghost use Rattle.scip_build.specs.PlacingLaws.{BuiltIsInOrder};
 ghost use Rattle.scip_build.specs.CertainUses.{CertainUsesResolveAlike};
 ghost use Rattle.scip_build.specs.Laws.{OneListOfFacts, NoFactsWhereUnreadable, LexedWhereUnparsed, OneFileFault};
+ghost use Rattle.scip_build.specs.Laws.{OneBesideAFile};
 ghost use Rattle.scip_build.specs.Laws.{OneFirstFaulty, NoParsedFilesWhereFaulty, ParsedFilesHaveOwnPaths, OneLinking};
 
 use index_hooks::Chooses;
@@ -16,6 +17,7 @@ use proto_link::{
     certain_resolves_alike, kept_files_are_clear, nothing_is_left_out_of_good_files,
     one_omission_list, one_refusal,
 };
+use proto_options::one_list_of_options;
 use proto_parse::{no_fault_where_it_derives, one_syntax_fault, one_tree};
 use scip_model::one_index;
 
@@ -26,6 +28,15 @@ pub fn one_list_of_facts_a_file()
     one_lexing();
     one_tree();
     one_list_of_facts();
+}
+
+/// One thing at most is known of a file beside its facts.
+pub fn one_beside_a_file()
+    ensures { OneBesideAFile }
+{
+    one_lexing();
+    one_tree();
+    one_list_of_options();
 }
 
 /// A file that has facts can't be unreadable, and one that can't be parsed has a lexing.
@@ -79,6 +90,8 @@ pub fn one_linking<C: Chooses, D: Chooses>(chooser: &C, other: &D)
 pub fn built_has_no_fault<C: Chooses, D: Chooses>(chooser: &C, other: &D)
     ensures { BuiltHasNoFault (C.allows chooser.now) (D.allows other.now) }
 {
+    faults_exclude_facts();
+    one_beside_a_file();
     one_linking(chooser, other);
     parsed_files_exclude_faults(chooser);
     parsed_files_exclude_faults(other);
@@ -88,6 +101,8 @@ pub fn built_has_no_fault<C: Chooses, D: Chooses>(chooser: &C, other: &D)
 pub fn one_build_fault<C: Chooses, D: Chooses>(chooser: &C, other: &D)
     ensures { OneBuildFault (C.allows chooser.now) (D.allows other.now) }
 {
+    faults_exclude_facts();
+    one_beside_a_file();
     one_linking(chooser, other);
     parsed_files_exclude_faults(chooser);
     parsed_files_exclude_faults(other);
@@ -140,6 +155,7 @@ pub fn one_built<C: Chooses, D: Chooses>(chooser: &C, other: &D)
     ensures one { OneBuilt (C.allows chooser.now) (D.allows other.now) }
 {
     one_list_of_facts_a_file();
+    one_beside_a_file();
     faults_exclude_facts();
     one_fault_a_file();
     one_omission_list();

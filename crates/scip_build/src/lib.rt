@@ -18,11 +18,14 @@ mod telling;
 mod choosing;
 mod chosen;
 mod file_parsing;
+mod option_reading;
 mod parsed_file;
 mod phase_one;
+mod read_form;
 mod reading;
 
 // The link.
+mod linked_options;
 mod linking;
 
 // The second phase: documents are made.
@@ -34,6 +37,7 @@ mod source_document;
 
 // What was made, put together.
 mod made;
+mod option_gaps;
 mod parts;
 mod unresolved_uses;
 mod use_faults;
@@ -52,9 +56,9 @@ pub use fault::{BuildFault, FileFault};
 pub use faulty::Faulty;
 pub use laws::{
     built_alike_if_kept, built_has_no_fault, certain_uses_resolve_alike, documents_are_in_order,
-    faults_exclude_facts, kept_resolves_alike, nothing_is_left_out_of_a_good_tree, one_build_fault,
-    one_built, one_fault_a_file, one_first_faulty, one_linking, one_list_of_facts_a_file,
-    parsed_files_exclude_faults, parsed_files_have_own_paths,
+    faults_exclude_facts, kept_resolves_alike, nothing_is_left_out_of_a_good_tree,
+    one_beside_a_file, one_build_fault, one_built, one_fault_a_file, one_first_faulty, one_linking,
+    one_list_of_facts_a_file, parsed_files_exclude_faults, parsed_files_have_own_paths,
 };
 pub use linking::{link, linked_files};
 pub use omission::Omission;
@@ -63,6 +67,7 @@ pub use parts::{BuiltParts, Parts};
 pub use phase_one::parse_files;
 pub use placed_document::PlacedDocument;
 pub use proto_link::Duplicates;
+pub use read_form::ReadForm;
 pub use reading::as_read;
 pub use run::Run;
 pub use settings::Settings;

@@ -2,6 +2,7 @@
 
 use crate::parsed_file::ParsedFile;
 use crate::settings::Settings;
+use option_link::OptionLinker;
 use scip_model::{Choices, SymbolPackages};
 use std::alloc::Global;
 
@@ -14,5 +15,7 @@ pub(crate) struct LinkedSources<'a, 'l, 'f, 'r> {
     pub(crate) parsed: &'a [ParsedFile<'r>],
     pub(crate) choices: &'a Choices,
     pub(crate) settings: &'a Settings,
+    /// The options of the files, if names in them are linked.
+    pub(crate) options: Option<&'a OptionLinker<'a, 'l, 'f>>,
     pub(crate) count: usize,
 }

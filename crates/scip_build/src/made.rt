@@ -6,11 +6,13 @@ use proto_lex::Span;
 use proto_link::{FilePlace, LinkFault, UncertainUse};
 use scip_model::Choices;
 
-/// What is kept of a source's document, and the places of its uses that name no type, in order.
+/// What is kept of a source's document, the places of its uses that name no type, in order, and those of the gaps of
+/// its options.
 #[derive(Drop)]
 pub(crate) struct MadeDocument<T> {
     pub(crate) kept: T,
     pub(crate) unresolved: Sequence<Span>,
+    pub(crate) option_gaps: Sequence<Span>,
 }
 
 /// What is made of files that were linked.
@@ -21,6 +23,8 @@ pub(crate) struct Made<T> {
     pub(crate) choices: Choices,
     /// The places of the uses of sources that name no type; none if such are refused.
     pub(crate) unresolved_uses: Sequence<FilePlace>,
+    /// The places of the gaps of options of sources: none if such are refused, or if names in options aren't linked.
+    pub(crate) option_gaps: Sequence<FilePlace>,
 }
 
 /// What is made of the files that are kept of a tree, and what of them is told.

@@ -5,7 +5,7 @@ use proto_link::FilePlace;
 
 /// What an index lacks of its tree, if faults are skipped: a file that is left out, or an import or a use without a
 /// target, which doesn't occur. Each is named as the fault for which the tree would be refused, but needn't be the
-/// first. A use that occurs is told, too, if its target isn't sure.
+/// first; only the gap of an option has a name of its own. A use that occurs is told, too, if its target isn't sure.
 ///
 /// A file is named by its number in the tree.
 #[derive(Clone, Copy, Debug, Drop, PartialEq, Eq)]
@@ -23,6 +23,9 @@ pub enum Omission {
     /// A use of a type that several of the files declare which are seen, by the place of the whole use. It never comes if
     /// no two files may give one name.
     Ambiguous(FilePlace),
+    /// An option with a name that names nothing, and should, by the place of the first such name. It comes only if
+    /// names in options are linked.
+    OptionGap(FilePlace),
     /// A use that names a type, but may name another one once a file can be read: by the place of the whole use, and the
     /// number of that file, the first of those that the use's file sees and that can't be read. It occurs, since mostly
     /// what it names is right.

@@ -6,6 +6,7 @@ ghost use Rattle.scip_build.specs.Keeping.{as_left_out, is_source};
 use crate::fault::FileFault;
 use basics::Sequence;
 use index_hooks::Choice;
+use option_link::OptionFacts;
 use proto_decl::FileFacts;
 use proto_lex::Text;
 use std::marker::Model;
@@ -21,6 +22,9 @@ pub struct Contents<'a> {
     pub facts: FileFacts<'a>,
     /// The choice for each declaration, in their order.
     pub choices: Sequence<Choice>,
+    /// What is known beside its facts, if it is asked for: its options, and what its fields are of. An included file
+    /// has no options here.
+    pub beside: Option<OptionFacts>,
 }
 
 impl<'a> Model for Contents<'a> {
@@ -28,7 +32,12 @@ impl<'a> Model for Contents<'a> {
 
     ghost Value = { FileContents };
 
-    ghost view = { λ contents. record { text = contents.text; facts = contents.facts; choices = contents.choices } };
+    ghost view = { λ contents. record {
+      text = contents.text;
+      facts = contents.facts;
+      choices = contents.choices;
+      beside = contents.beside;
+    } };
 }
 
 /// A file after it was read: its contents, or why it has none; a source is without only if such are skipped.

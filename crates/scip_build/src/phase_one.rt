@@ -8,10 +8,10 @@ use crate::fault::BuildFault;
 use crate::faulty::Faulty;
 use crate::file_parsing::{NoContents, Reader, read_file};
 use crate::parsed_file::ParsedFile;
+use crate::read_form::ReadForm;
 use crate::run::Run;
 use index_hooks::Chooses;
 use index_pool::{Gate, Job, PoolFault, Ticket, run_phase};
-use proto_decl::FactForm;
 use proto_parse::Dialect;
 use source_tree::Tree;
 use std::sync::Wait;
@@ -69,7 +69,7 @@ pub fn parse_files<'a, R: Threads + Wait, C: Chooses + Sync, G: Gate>(
     tree: &'a Tree,
     chooser: &C,
     dialect: Dialect,
-    form: FactForm,
+    form: ReadForm,
     faulty: Faulty,
 ) -> Result<Vec<ParsedFile<'a>>, BuildFault>
     ensures { MatchResult result

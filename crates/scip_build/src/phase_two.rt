@@ -3,7 +3,7 @@
 ghost use Rattle.std.specs.Prelude.{◌≡◌, ◌≤◌, MatchResult};
 ghost use Rattle.index_pool.specs.declared.workers.TheConstants.{MAX_INPUTS};
 ghost use Rattle.scip_build.specs.Documents.{fault_of_source};
-ghost use Rattle.scip_build.specs.Works.{IsReady, MayRefuseAny, AreMadeFrom};
+ghost use Rattle.scip_build.specs.Works.{HasOptions, IsReady, MayRefuseAny, AreMadeFrom};
 
 use crate::document_form::DocumentForm;
 use crate::fault::BuildFault;
@@ -14,7 +14,7 @@ use crate::run::Run;
 use crate::source_document::{NoDocument, make_document};
 use index_pool::{Gate, Job, PoolFault, Ticket, run_phase};
 use proto_link::FilePlace;
-use scip_model::one_document_a_source;
+use scip_model::{PlannedWithOptions, one_document_a_source};
 use std::marker::Model;
 use std::sync::Wait;
 use std::thread::Threads;
@@ -28,13 +28,13 @@ struct PhaseTwo<'a, 'b, 'l, 'f, 'r, F: DocumentForm + Sync> {
 
 impl<'a, 'b, 'l, 'f, 'r, F: DocumentForm + Sync> Model for PhaseTwo<'a, 'b, 'l, 'f, 'r, F> {
     ghost use Rattle.scip_build.specs.Documents.{SourceWork};
-    ghost use Rattle.scip_build.specs.Works.{IsReady, work_of};
+    ghost use Rattle.scip_build.specs.Works.{HasOptions, IsReady, work_of};
 
     ghost Value = { SourceWork };
 
     ghost view = { λ job. work_of job.sources.now };
 
-    ghost invariant = { λ job. IsReady job.sources.now };
+    ghost invariant = { λ job. IsReady job.sources.now × HasOptions job.sources.now };
 }
 
 impl<'a, 'b, 'l, 'f, 'r, F: DocumentForm + Sync> Job for PhaseTwo<'a, 'b, 'l, 'f, 'r, F> {
@@ -53,11 +53,19 @@ impl<'a, 'b, 'l, 'f, 'r, F: DocumentForm + Sync> Job for PhaseTwo<'a, 'b, 'l, 'f
 
     fn run(&self, ticket: Ticket) -> Result<MadeDocument<F::Kept>, NoDocument> {
         let made = make_document(self.sources, ticket.number())?;
-        let (plan, unresolved) = made.into_parts();
+        let PlannedWithOptions {
+            planned,
+            option_gaps,
+        } = made;
+        let (plan, unresolved) = planned.into_parts();
         let alloc = self.sources.alloc;
         let placed = PlacedDocument::below(alloc, self.sources.settings.at.as_str(), plan)?;
         let kept = self.form.keep(alloc, placed)?;
-        Ok(MadeDocument { kept, unresolved })
+        Ok(MadeDocument {
+            kept,
+            unresolved,
+            option_gaps,
+        })
     }
 }
 
@@ -72,7 +80,7 @@ fn refusal(number: usize, fault: NoDocument) -> BuildFault
 }
 
 /// Makes the documents of the sources, by path, on workers, with the gate's calls round each, and keeps of
-/// each what the form says, and its uses that name no type.
+/// each what the form says, its uses that name no type, and the gaps of its options.
 ///
 /// Of the refusals, `Spawn` comes before `Memory`, and `Memory` before `Unresolved`, which is of the first source,
 /// and comes only if such uses are refused; but if the least source that has no document lacks memory, it is
@@ -85,6 +93,7 @@ pub(crate) fn make_documents<R: Threads + Wait, G: Gate, F: DocumentForm + Sync>
 ) -> Result<Vec<MadeDocument<F::Kept>>, BuildFault>
     requires few { sources.now.count ≤ MAX_INPUTS }
     requires ready { IsReady sources.now }
+    requires options { HasOptions sources.now }
     ensures { MatchResult result
         (λ made. AreMadeFrom sources.now F.is_kept made.items)
         (MayRefuseAny sources.now run.now.workers) }

@@ -25,6 +25,8 @@ pub struct Settings {
     pub comments: CommentForm,
     /// Whether it is told how declarations read, what they are and are in, and where they end.
     pub details: bool,
+    /// Whether names in options are linked. It is asked for in the dialect of all sources only.
+    pub options: bool,
     /// Whether a tree with faults is refused, or what has one is left out and reported.
     pub faulty: Faulty,
     /// Whether several files may give one name.

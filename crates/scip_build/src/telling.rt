@@ -6,7 +6,8 @@ ghost use Rattle.std.specs.Ordering.{eq_by_cmp};
 ghost use Rattle.scip_build.specs.Linking.{linked_files};
 ghost use Rattle.scip_build.specs.Kept.{IsLeftFor, told_key, told_cmp};
 ghost use Rattle.scip_build.specs.Telling.{Adds, FromFront, IsLeftIf, IsSomeOmission, AreSomeOmissions};
-ghost use Rattle.scip_build.specs.Telling.{number_in, told_import, told_use, told_uncertain, AreInOrder, all_told};
+ghost use Rattle.scip_build.specs.Telling.{number_in, told_gap, told_import, told_use, told_uncertain, AreInOrder};
+ghost use Rattle.scip_build.specs.Telling.{all_told};
 
 use crate::linking::fault_at;
 use crate::omission::Omission;
@@ -138,6 +139,20 @@ fn push_uncertain(
     Ok(())
 }
 
+/// Adds the options of kept files that have gaps at these places.
+fn push_gaps(
+    told: &mut Vec<Omission>,
+    numbers: &[usize],
+    places: &[FilePlace],
+) -> Result<(), AllocError>
+    ensures { OnOk result (told.new.items ≡ told.old.items ++ map (told_gap numbers.now) places.now) }
+{
+    for place in places {
+        told.push(Omission::OptionGap(moved(numbers, place)))?;
+    }
+    Ok(())
+}
+
 /// Where in the tree an omission is told.
 fn told_key(omission: &Omission) -> ((usize, usize), (usize, usize))
     ensures { result ≡ told_key omission.now }
@@ -160,6 +175,10 @@ fn told_key(omission: &Omission) -> ((usize, usize), (usize, usize))
         Omission::Uncertain(place, _) => (
             (place.file, place.span.start as usize),
             (place.span.end as usize, 3),
+        ),
+        Omission::OptionGap(place) => (
+            (place.file, place.span.start as usize),
+            (place.span.end as usize, 4),
         ),
     }
 }
@@ -188,21 +207,23 @@ fn in_order(told: Vec<Omission>) -> Result<Vec<Omission>, AllocError>
     Ok(told)
 }
 
-/// All that is told: what is left out, the imports of kept files without a target, why uses of them name nothing, and
-/// which uses of them may name another type; files have these numbers among all.
+/// All that is told: what is left out, the imports of kept files without a target, why uses of them name nothing,
+/// which uses of them may name another type, and which options have gaps; files have these numbers among all.
 pub(crate) fn tell(
     left: Vec<Omission>,
     numbers: &[usize],
     imports: &[FilePlace],
     faults: &[LinkFault],
     uncertain: &[UncertainUse],
+    option_gaps: &[FilePlace],
 ) -> Result<Vec<Omission>, AllocError>
     ensures { IfOk result (λ once. AreInOrder
-        (all_told left.items numbers.now imports.now faults.now uncertain.now) once.items) }
+        (all_told left.items numbers.now imports.now faults.now uncertain.now option_gaps.now) once.items) }
 {
     let mut told = left;
     push_imports(&mut told, numbers, imports)?;
     push_uses(&mut told, numbers, faults)?;
     push_uncertain(&mut told, numbers, uncertain)?;
+    push_gaps(&mut told, numbers, option_gaps)?;
     in_order(told)
 }

@@ -1,7 +1,8 @@
-//! What was made of the sources, apart: what is kept of their documents, and their uses that name no type.
+//! What was made of the sources, apart: what is kept of their documents, their uses that name no type, and the gaps of
+//! their options.
 
 ghost use Rattle.std.specs.Prelude.{◌≡◌, ◌++◌, IfOk, OnOk, map};
-ghost use Rattle.scip_build.specs.Made.{place_in, unresolved_from};
+ghost use Rattle.scip_build.specs.Made.{gaps_from, place_in, unresolved_from};
 
 use crate::made::MadeDocument;
 use proto_lex::Span;
@@ -28,6 +29,20 @@ pub(crate) fn unresolved_of<T: Drop>(
     let mut places = Vec::new(alloc);
     for (file, document) in made.iter().enumerate() {
         push_places(&mut places, file, document.unresolved.as_slice())?;
+    }
+    Ok(places)
+}
+
+/// The places of the gaps of options, by source, and in order.
+pub(crate) fn option_gaps_of<T: Drop>(
+    alloc: Global,
+    made: &[MadeDocument<T>],
+) -> Result<Vec<FilePlace>, AllocError>
+    ensures { IfOk result (λ places. places.items ≡ gaps_from 0 made.now) }
+{
+    let mut places = Vec::new(alloc);
+    for (file, document) in made.iter().enumerate() {
+        push_places(&mut places, file, document.option_gaps.as_slice())?;
     }
     Ok(places)
 }

@@ -1,6 +1,7 @@
 -- The entries of declarations of included files that uses in sources name: just those, and no two with one symbol.
 use Rattle.std.proofs.Common.{◌≡◌, ◌∙◌, ◌↔◌, inl, inr, ℕ, ◌+◌, ◌<◌, Bool, true, false, Some, List, [], ◌∷◌, length}
 use Rattle.std.proofs.Common.{refl, sym, ap, subst, arith}
+use Rattle.std.specs.declared.cmp.Ordering.{Ordering}
 use Rattle.std.specs.declared.cmp.Ordering.TheVariants.{Less}
 use Rattle.std.specs.Ordering.{nat_cmp, eq_by_cmp, ordering_then}
 use Rattle.std.specs.List.{slice_get, AllZip, Contains, IsDistinct}
@@ -13,7 +14,8 @@ use Rattle.index_hooks.specs.declared.choice.Choice.{Choice}
 use Rattle.proto_decl.specs.Facts.{Facts}
 use Rattle.proto_decl.specs.declared.declaration.Declaration.{Declaration}
 use Rattle.proto_visibility.specs.Files.{File, HasFacts, IsIncludedAt}
-use Rattle.proto_visibility.specs.Sees.{IsReachable}
+use Rattle.option_link.specs.Counted.{Counts}
+use Rattle.option_link.specs.Counted.Counts.{reachable}
 use Rattle.proto_visibility.specs.Sees.IsReachable.{seen}
 use Rattle.proto_visibility.specs.Knows.{IsEntityOf}
 use Rattle.proto_visibility.specs.Knows.IsEntityOf.{packaged, declared}
@@ -23,13 +25,13 @@ use Rattle.proto_visibility.proofs.FileFactLemmas.{one_list_of_facts}
 use Rattle.basics.proofs.FirstLemmas.{contained, contained_at}
 use Rattle.scip_records.specs.declared.records.SymbolInformation.{SymbolInformation}
 use Rattle.scip_model.specs.Packages.{Packages, ArePackages, package_of_file}
-use Rattle.scip_model.specs.Chosen.{Chosen, HaveChoices, HasChoice, IsChosen}
+use Rattle.scip_model.specs.Chosen.{Chosen, HaveChoices, HasChoice, IsChosen, IsKeptDeclaration}
 use Rattle.scip_model.specs.Named.{Home, HasDeclaration, declaration_in, home_of_file}
 use Rattle.scip_model.specs.Detailed.{detail_at}
 use Rattle.scip_model.specs.Entries.{declaration_entry, IsKeptEntry, HasExternal}
 use Rattle.scip_model.specs.Tables.ExternalLists.{Pair, pair_cmp, Adds, IsEntryAt, IsEntryOf, IsExternal}
-use Rattle.scip_model.specs.Tables.ExternalLists.{NoneIncluded}
-use Rattle.scip_model.specs.Indexes.{info_cmp, AreExternals}
+use Rattle.scip_model.specs.Tables.ExternalLists.{HasEntryAmong, IsKeptThere, NoneIncluded}
+use Rattle.scip_model.specs.Indexes.{IsAscendingListOf, info_cmp, AreExternals}
 use Rattle.scip_model.proofs.PackageLemmas.{file_good}
 use Rattle.scip_model.proofs.ExternalSymbolPairLemmas.{pairs_total}
 use Rattle.scip_model.proofs.IndexSortLemmas.{ascending-list, distinct-cons, not-below}
@@ -72,13 +74,13 @@ pub record IsThere (files : List File) (file index : ℕ) : Type 0 where
   pub facts : Facts
   pub declaration : Declaration
   pub has : HasDeclaration files file index facts declaration
-  pub is_reachable : IsReachable files file
+  pub counts : Counts files file
 
-named-there : (files : List File) {owner count : ℕ} {facts : Facts} {name : List ℕ} {part : Entity} (file index : ℕ)
-    → IsReachable files owner → HasFacts files owner facts → IsEntityOf owner facts name count part
+pub named-there : (files : List File) {owner count : ℕ} {facts : Facts} {name : List ℕ} {part : Entity} (file index : ℕ)
+    → Counts files owner → HasFacts files owner facts → IsEntityOf owner facts name count part
     → part ≡ link.Declared file index → IsThere files file index
-named-there files file index reachable has (packaged prefix) same = cc
-named-there files {owner} {count} {facts} file index reachable has
+named-there files file index counts has (packaged prefix) same = cc
+named-there files {owner} {count} {facts} file index counts has
     (declared {index = its} {declaration = declaration} at full) same =
     subst (λ n. IsThere files n index) (ap file-of same)
     (subst (λ n. IsThere files owner n) (ap index-of same)
@@ -86,31 +88,37 @@ named-there files {owner} {count} {facts} file index reachable has
       facts = facts;
       declaration = declaration;
       has = record { has_facts = has; numbered = at };
-      is_reachable = reachable;
+      counts = counts;
     }))
 
 module _ (files : List File) (chosen : Chosen) where
-  pub external-there : (count : ℕ) (x : Pair) → IsExternal files chosen count x → IsThere files x.0 x.1
+  pub kept-there : (x : Pair) → IsThere files x.0 x.1 → IsKeptDeclaration chosen x.0 x.1 → IsKeptThere files chosen x
+  kept-there x there kept = record {
+    counts = there.counts;
+    facts = there.facts;
+    declaration = there.declaration;
+    has = there.has;
+    kept = kept;
+  }
+
+  pub external-there : (count : ℕ) (x : Pair) → IsExternal files chosen count x → IsKeptThere files chosen x
   external-there count x is =
       let used = is.of_source.of_uses.is in
       let part = used.of_parts in
       let owned = used.is_target.names.owned in
-      named-there files x.0 x.1 (seen is.of_source.is_source owned.gives.sees owned.present) used.is_target.known
-      (used.is_target.named part.index part.element part.stands) part.is.is
+      kept-there x
+      (named-there files x.0 x.1 (reachable (seen is.of_source.is_source owned.gives.sees owned.present))
+      used.is_target.known (used.is_target.named part.index part.element part.stands) part.is.is) part.is.kept
 
-  pub external-chosen : (count : ℕ) (x : Pair) → HaveChoices files chosen → IsExternal files chosen count x
-      → HasChoice chosen x.0 x.1
-  external-chosen count x choices is = let there = external-there count x is in
-      choices x.0 x.1 there.facts there.declaration there.has
+  pub there-chosen : (x : Pair) → HaveChoices files chosen → IsKeptThere files chosen x → HasChoice chosen x.0 x.1
+  there-chosen x choices there = choices x.0 x.1 there.facts there.declaration there.has
 
-  pub external-within : (count : ℕ) (x : Pair) → IsExternal files chosen count x → x.0 < length files
-  external-within count x is = let has = (external-there count x is).has.has_facts in
-      slice_get_within files x.0 has.file has.numbered
+  pub there-within : (x : Pair) → IsKeptThere files chosen x → x.0 < length files
+  there-within x there = slice_get_within files x.0 there.has.has_facts.file there.has.has_facts.numbered
 
-  pub external-index : (count : ℕ) (x : Pair) (facts : Facts) → IsExternal files chosen count x
-      → HasFacts files x.0 facts → x.1 < length facts.declarations
-  external-index count x facts is known =
-      let there = external-there count x is in
+  pub there-index : (x : Pair) (facts : Facts) → IsKeptThere files chosen x → HasFacts files x.0 facts
+      → x.1 < length facts.declarations
+  there-index x facts there known =
       subst (λ (f : Facts). x.1 < length f.declarations)
       (one_list_of_facts files x.0 there.facts facts there.has.has_facts known)
       (slice_get_within there.facts.declarations x.1 there.declaration there.has.numbered)
@@ -124,11 +132,11 @@ one-choice chosen file index a b x y =
     same_Some a b (sym x.declaration_is ∙ (ap (λ (l : List Choice). slice_get l index) lists ∙ y.declaration_is))
 
 module _ (files : List File) (chosen : Chosen) (ids : Packages) where
-  pub kept-entry : (count : ℕ) (x : Pair) (facts : Facts) (entry : SymbolInformation) → IsExternal files chosen count x
+  pub kept-entry : (x : Pair) (facts : Facts) (entry : SymbolInformation) → IsKeptThere files chosen x
       → HasFacts files x.0 facts → IsEntryAt chosen (home_of_file files ids x.0) facts x.0 x.1 entry
       → IsKeptEntry files chosen ids x.0 x.1 entry
-  kept-entry count x facts entry is known made =
-      let kept = is.of_source.of_uses.is.of_parts.is.kept in
+  kept-entry x facts entry there known made =
+      let kept = there.kept in
       record {
         facts = facts;
         declaration = made.declaration;
@@ -140,7 +148,7 @@ module _ (files : List File) (chosen : Chosen) (ids : Packages) where
         is = made.is;
       }
 
-  one-entry : (file index : ℕ) (x y : SymbolInformation) → IsKeptEntry files chosen ids file index x
+  pub one-entry : (file index : ℕ) (x y : SymbolInformation) → IsKeptEntry files chosen ids file index x
       → IsKeptEntry files chosen ids file index y → x ≡ y
   one-entry file index x y a b =
       let facts : a.facts ≡ b.facts = one_list_of_facts files file a.facts b.facts a.has.has_facts b.has.has_facts in
@@ -160,7 +168,7 @@ module _ (files : List File) (chosen : Chosen) (ids : Packages) where
   pair-of : ℕ → ℕ → Pair
   pair-of file index = (file, index)
 
-  external-pair : (entry : SymbolInformation) (has : HasExternal files chosen ids entry)
+  pub external-pair : (entry : SymbolInformation) (has : HasExternal files chosen ids entry)
       → IsExternal files chosen (length files) (has.number, has.index)
   external-pair entry has =
       let names = has.names in
@@ -199,7 +207,7 @@ module _ (files : List File) (chosen : Chosen) (ids : Packages) where
         };
       }
 
-  pair-external : (count : ℕ) (x : Pair) (entry : SymbolInformation) → IsExternal files chosen count x
+  pub pair-external : (count : ℕ) (x : Pair) (entry : SymbolInformation) → IsExternal files chosen count x
       → IsKeptEntry files chosen ids x.0 x.1 entry → HasExternal files chosen ids entry
   pair-external count x entry is kept =
       let source = is.of_source in
@@ -259,13 +267,13 @@ none-more files count included before here same = λ number less. elim (cases_lt
 
 -- ---- the list of them
 
--- those that were added to nothing
-pub all-added : (P : Pair → Type 0) (named once : List Pair) → Adds P [] named
-    → ((x : Pair) → Contains once x ↔ Contains named x) → (x : Pair) → Contains once x ↔ P x
-all-added P named once adds same = λ x. (
-  λ there. elim ((adds x).0 ((same x).0 there)) [ inl none ↦ absurd (in_nothing x none) | inr is ↦ is ],
-  λ is. (same x).1 ((adds x).1 (inr is)),
-)
+-- one kind for another in the list of a set
+pub same-list : {X : Type 0} {cmp : X → X → Ordering} {P Q : X → Type 0} (list : List X) → ((x : X) → P x → Q x)
+    → ((x : X) → Q x → P x) → IsAscendingListOf cmp P list → IsAscendingListOf cmp Q list
+same-list list there back is = record {
+  exact = λ x. (λ h. there x ((is.exact x).0 h), λ q. (is.exact x).1 (back x q));
+  ascends = is.ascends;
+}
 
 apart-pairs : (p q : Pair) → pair_cmp p q ≡ Less → p.0 ≡ q.0 → p.1 ≡ q.1 → ⊥
 apart-pairs p q less first second =
@@ -280,19 +288,20 @@ none-tie = tt
 module _ (files : List File) (ids : Packages) (known : AreApart files ids) (good : ArePackages ids)
     (chosen : Chosen) where
   -- declarations that differ have entries of different symbols
-  symbols-differ : (p q : Pair) (x y : SymbolInformation) → IsThere files p.0 p.1 → IsThere files q.0 q.1
+  symbols-differ : (p q : Pair) (x y : SymbolInformation) → IsKeptThere files chosen p
+      → IsKeptThere files chosen q
       → IsEntryOf files chosen ids p x → IsEntryOf files chosen ids q y
       → x.symbol ≡ y.symbol → (p.0 ≡ q.0) × (p.1 ≡ q.1)
   symbols-differ p q x y there its a b same =
       one-declared files ids known p.0 q.0 a.facts b.facts
-      (record { is_reachable = there.is_reachable; known = a.has.has_facts })
-      (record { is_reachable = its.is_reachable; known = b.has.has_facts }) (package_of_file files ids p.0)
+      (record { counts = there.counts; known = a.has.has_facts })
+      (record { counts = its.counts; known = b.has.has_facts }) (package_of_file files ids p.0)
       (package_of_file files ids q.0) (file_good files ids p.0 good) (file_good files ids q.0 good)
       p.1 q.1 a.declaration b.declaration a.has.numbered b.has.numbered
       (sym (ap (λ (i : SymbolInformation). i.symbol) a.is) ∙ (same ∙ ap (λ (i : SymbolInformation). i.symbol) b.is))
 
   made-distinct : (pairs : List Pair) (made : List SymbolInformation)
-      → ((x : Pair) → Contains pairs x → IsThere files x.0 x.1) → IsStrictlySortedBy pair_cmp pairs
+      → ((x : Pair) → Contains pairs x → IsKeptThere files chosen x) → IsStrictlySortedBy pair_cmp pairs
       → AllZip (IsEntryOf files chosen ids) pairs made → IsDistinct (eq_by_cmp info_cmp) made
   unfolding IsStrictlySortedBy
   made-distinct [] [] there up all = none-tie
@@ -311,21 +320,43 @@ module _ (files : List File) (ids : Packages) (known : AreApart files ids) (good
       (made-distinct ps xs (λ q listed. there q (behind_it p ps q listed)) up.1 all.1)
 
   -- the entries of all, in order
-  pub external-list : (pairs : List Pair) → ((x : Pair) → Contains pairs x ↔ IsExternal files chosen (length files) x)
-      → IsStrictlySortedBy pair_cmp pairs
-      → (made list : List SymbolInformation) → AllZip (IsEntryOf files chosen ids) pairs made → IsPermutation made list
-      → IsSorted info_cmp list → AreExternals files chosen ids list
-  external-list pairs exact up made list all moved sorted =
-      ascending-list infos_total (HasExternal files chosen ids) made list
+  pub entry-list : (pairs once : List Pair) → ((x : Pair) → Contains once x ↔ Contains pairs x)
+      → ((x : Pair) → Contains pairs x → IsKeptThere files chosen x) → IsStrictlySortedBy pair_cmp once
+      → (made list : List SymbolInformation) → AllZip (IsEntryOf files chosen ids) once made → IsPermutation made list
+      → IsSorted info_cmp list → IsAscendingListOf info_cmp (HasEntryAmong files chosen ids pairs) list
+  entry-list pairs once same there up made list all moved sorted =
+      ascending-list infos_total (HasEntryAmong files chosen ids pairs) made list
       (λ x. (
-        λ there. (
-            let of = zip-from (IsEntryOf files chosen ids) pairs made all x there in
-            pair-external files chosen ids (length files) of.0 x ((exact of.0).0 of.1) of.2),
+        λ listed. (
+            let of = zip-from (IsEntryOf files chosen ids) once made all x listed in
+            (of.0, (same of.0).0 of.1, of.2)),
         λ has. (
-            let p : Pair = (has.number, has.index) in
-            let of = zip-to (IsEntryOf files chosen ids) pairs made all p
-            ((exact p).1 (external-pair files chosen ids x has)) in
-            subst (Contains made) (one-entry files chosen ids has.number has.index of.0 x of.2 has.kept) of.1),
+            let of = zip-to (IsEntryOf files chosen ids) once made all has.0 ((same has.0).1 has.1) in
+            subst (Contains made) (one-entry files chosen ids has.0.0 has.0.1 of.0 x of.2 has.2) of.1),
       ))
-      (made-distinct pairs made (λ x there. external-there files chosen (length files) x ((exact x).0 there)) up all)
+      (made-distinct once made (λ x listed. there x ((same x).0 listed)) up all)
       moved sorted
+
+-- those of the pairs that uses name
+pub of-externals : (files : List File) (ids : Packages) (chosen : Chosen) (pairs : List Pair)
+    (list : List SymbolInformation) → Adds (IsExternal files chosen (length files)) [] pairs
+    → IsAscendingListOf info_cmp (HasEntryAmong files chosen ids pairs) list → AreExternals files chosen ids list
+of-externals files ids chosen pairs list adds =
+    same-list list
+    (λ x has. elim ((adds has.0).0 has.1) [
+      | inl none ↦ absurd (in_nothing has.0 none)
+      | inr is ↦ pair-external files chosen ids (length files) has.0 x is has.2
+    ])
+    (λ x has. (
+      (has.number, has.index),
+      (adds (has.number, has.index)).1 (inr (external-pair files chosen ids x has)),
+      has.kept,
+    ))
+
+pub externals-there : (files : List File) (chosen : Chosen) (pairs : List Pair)
+    → Adds (IsExternal files chosen (length files)) [] pairs → (x : Pair) → Contains pairs x
+    → IsKeptThere files chosen x
+externals-there files chosen pairs adds x listed = elim ((adds x).0 listed) [
+  | inl none ↦ absurd (in_nothing x none)
+  | inr is ↦ external-there files chosen (length files) x is
+]

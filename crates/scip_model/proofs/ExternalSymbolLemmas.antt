@@ -22,9 +22,9 @@ use Rattle.scip_model.specs.Tables.Listing.{parts_of}
 use Rattle.scip_model.specs.Tables.ExternalLists.{Pair, Adds, FromFront, IsKnownPart, IsOfPart, IsOfUse, IsOfSource}
 use Rattle.scip_model.specs.Tables.ExternalLists.{IsExternal}
 
-module _ {X : Type 0} (IsOf : X → Pair → Type 0) (xs : List X) where
+module _ {X Y : Type 0} (IsOf : X → Y → Type 0) (xs : List X) where
   -- one element more
-  pub adds-more : (count : ℕ) (element : X) (old mid new : List Pair) → slice_get xs count ≡ Some element
+  pub adds-more : (count : ℕ) (element : X) (old mid new : List Y) → slice_get xs count ≡ Some element
       → Adds (FromFront IsOf xs count) old mid → Adds (IsOf element) mid new
       → Adds (FromFront IsOf xs (count + 1)) old new
   adds-more count element old mid new at before now = λ x. (
@@ -56,13 +56,13 @@ module _ {X : Type 0} (IsOf : X → Pair → Type 0) (xs : List X) where
     ],
   )
 
-  pub adds-more-at : (count : ℕ) (d : X) (old mid new : List Pair) → count < length xs
+  pub adds-more-at : (count : ℕ) (d : X) (old mid new : List Y) → count < length xs
       → Adds (FromFront IsOf xs count) old mid → Adds (IsOf (get_or xs count d)) mid new
       → Adds (FromFront IsOf xs (count + 1)) old new
   adds-more-at count d old mid new within before now =
       adds-more count (get_or xs count d) old mid new (slice_get-get_or xs count d within) before now
 
-  pub adds-all : (count : ℕ) (old new : List Pair) → length xs ≤ count → Adds (FromFront IsOf xs count) old new
+  pub adds-all : (count : ℕ) (old new : List Y) → length xs ≤ count → Adds (FromFront IsOf xs count) old new
       → Adds (FromFront IsOf xs (length xs)) old new
   adds-all count old new past before = λ x. (
     λ there. elim ((before x).0 there) [
@@ -89,7 +89,7 @@ module _ {X : Type 0} (IsOf : X → Pair → Type 0) (xs : List X) where
   )
 
 -- what is added by one account is by another
-pub adds-same : (P Q : Pair → Type 0) (old new : List Pair) → ((x : Pair) → P x → Q x) → ((x : Pair) → Q x → P x)
+pub adds-same : {Y : Type 0} (P Q : Y → Type 0) (old new : List Y) → ((x : Y) → P x → Q x) → ((x : Y) → Q x → P x)
     → Adds P old new → Adds Q old new
 adds-same P Q old new there back adds = λ x. (
   λ found. elim ((adds x).0 found) [ inl kept ↦ inl kept | inr added ↦ inr (there x added) ],
@@ -97,7 +97,7 @@ adds-same P Q old new there back adds = λ x. (
 )
 
 module _ (files : List File) (chosen : Chosen) where
-  known-part : {owner : ℕ} {facts : Facts} {name : List ℕ} {count : ℕ} {part : Entity} → HasFacts files owner facts
+  pub known-part : {owner : ℕ} {facts : Facts} {name : List ℕ} {count : ℕ} {part : Entity} → HasFacts files owner facts
       → HaveChoices files chosen → IsEntityOf owner facts name count part → IsKnownPart files chosen part
   known-part has choices (packaged prefix) = tt
   known-part {owner} {facts} has choices (declared {index = index} {declaration = declaration} at full) = (

@@ -24,10 +24,14 @@ pub mod ExternalSymbolSeenLemmas
 pub mod IndexSortLemmas
 -- Of a source's facts: its lists of occurrences ascend, and merged they are the list of what occurs
 pub mod ListingDocumentLemmas
+-- The numbers that are kept of what the names in a document's options named
+pub mod KnownPartLemmas
 -- The lists that make up a document's occurrences have what they give, and ascend
 pub mod ListingLemmas
 -- What the parts of a target name has symbols
 pub mod ListingNameableLemmas
+-- Merging two ascending lists of which the first goes before, and what a sort leaves of a list with doubles
+pub mod MergeApartLemmas
 -- Merging two ascending lists
 pub mod MergeLemmas
 -- Declared names and the components of the package's name begin at places of their own
@@ -48,6 +52,14 @@ pub mod OccursLemmas
 pub mod OwnTextJoinedLemmas
 -- The texts of the symbols of a file's own declarations
 pub mod OwnTextLemmas
+-- Which declarations of included files the names in options of sources name
+pub mod OptionExternalLemmas
+-- The gaps of options
+pub mod OptionGapLemmas
+-- What occurs of names in options
+pub mod OptionOccurLemmas
+-- What names in options name, by their parts
+pub mod OptionTargetLemmas
 -- The packages of files, and symbols in several packages
 pub mod PackageLemmas
 -- What two trees share has one symbol in both

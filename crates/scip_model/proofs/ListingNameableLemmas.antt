@@ -116,7 +116,7 @@ way_some (step ∷ (next ∷ others)) some =
     scoped_some step.kind step.name (names_of (next ∷ others)) (way_some (next ∷ others) (λ e. cc))
 
 -- the components of a declared full name are identifiers
-declared_all : (facts : Facts) → AreIdentifiers → AreOfSomeFile facts → (d : Declaration)
+pub declared_all : (facts : Facts) → AreIdentifiers → AreOfSomeFile facts → (d : Declaration)
     → Contains facts.declarations d → All IsIdentifier (components_of d.full_name)
 declared_all facts spelled origin d listed =
     let named = spelled.named facts origin in
@@ -146,7 +146,7 @@ take_some zero xs one some = absurd (omega (arith, one))
 take_some (suc count) [] one some = absurd (omega (arith, some))
 take_some (suc count) (x ∷ xs) one some = λ e. cc
 
-part_nameable : (files : List File) (owner : ℕ) (facts : Facts) (name text : List ℕ) (count : ℕ) (part : Entity)
+pub part_nameable : (files : List File) (owner : ℕ) (facts : Facts) (name text : List ℕ) (count : ℕ) (part : Entity)
     → HasFacts files owner facts → All IsIdentifier (components_of name) → 0 < count
     → IsEntityOf owner facts text count part → IsNameable files name part
 part_nameable files owner facts name text count part has all one (named_package prefix) = (

@@ -85,13 +85,13 @@ module _ {X : Type 0} where
   keep3 x y t a b (inr (inr h)) = inr (inr (in_tail x y b h))
 
 module _ {X : Type 0} (cmp : X → X → Ordering) where
-  abbrev Sorted : List X → Type 0
+  abbrev pub Sorted : List X → Type 0
   Sorted xs = IsStrictlySortedBy cmp xs
 
-  abbrev Below : X → List X → Type 0
+  abbrev pub Below : X → List X → Type 0
   Below x ys = AllByRecursion (λ y. cmp x y ≡ Less) ys
 
-  suffix : (out ys : List X) → Sorted (out ++ ys) → Sorted ys
+  pub suffix : (out ys : List X) → Sorted (out ++ ys) → Sorted ys
   unfolding IsStrictlySortedBy
   suffix [] ys s = s
   suffix (o ∷ out) ys s = suffix out ys s.1
@@ -101,7 +101,7 @@ module _ {X : Type 0} (cmp : X → X → Ordering) where
   insert_below o [] x xs ys a b = (a.0, b)
   insert_below o (p ∷ out) x xs ys a b = (a.0, insert_below o out x xs ys a.1 b.1)
 
-  insert : (out : List X) (x : X) (xs ys : List X) → Sorted (out ++ x ∷ xs) → Sorted (out ++ ys) → Below x ys
+  pub insert : (out : List X) (x : X) (xs ys : List X) → Sorted (out ++ x ∷ xs) → Sorted (out ++ ys) → Below x ys
       → Sorted (out ++ x ∷ ys)
   unfolding IsStrictlySortedBy
   insert [] x xs ys a b below = (below, b)
@@ -173,7 +173,7 @@ module _ {X : Type 0} (cmp : X → X → Ordering) where
     all_below x y [] less below = tt
     all_below x y (z ∷ ys) less below = (order.trans x y z less below.0, all_below x y ys less below.1)
 
-    below_all : (x y : X) (ys : List X) → cmp x y ≡ Less → Sorted (y ∷ ys) → Below x (y ∷ ys)
+    pub below_all : (x y : X) (ys : List X) → cmp x y ≡ Less → Sorted (y ∷ ys) → Below x (y ∷ ys)
     below_all x y ys less s = (less, all_below x y ys less (sorted_head cmp y ys s))
 
     pub step : (f s t a b a_left b_left : List X) (next : Option X) (z : X)

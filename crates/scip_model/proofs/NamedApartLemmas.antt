@@ -20,6 +20,10 @@ use Rattle.proto_decl.specs.declared.declaration.Declaration.{Declaration}
 use Rattle.proto_decl.proofs.LawAncestorLemmas.{heads}
 use Rattle.proto_visibility.specs.Files.{File, HasFacts}
 use Rattle.proto_visibility.specs.Sees.{IsReachable}
+use Rattle.option_link.specs.Counted.{Counts, HasOwnNames, IsApartFromSeen}
+use Rattle.option_link.specs.Counted.Counts.{reachable as of_reachable, apart as of_own, descriptor as of_descriptor}
+use Rattle.option_link.specs.Places.{Stands, place_at}
+use Rattle.option_link.specs.declared.place.DeclaredPlace.{DeclaredPlace}
 use Rattle.proto_visibility.specs.declared.clash.Duplicates.TheVariants.{Keep}
 use Rattle.proto_visibility.proofs.FileFactLemmas.{one_list_of_facts}
 use Rattle.scip_symbol.specs.Package.{Package, IsPackage}
@@ -36,8 +40,51 @@ use Rattle.scip_model.proofs.RepeatedNamespaceLemmas.{one-namespace, namespace-n
 
 -- the facts of a file that counts
 pub record AreCounted (files : List File) (number : ℕ) (facts : Facts) : Type 0 where
-  pub is_reachable : IsReachable files number
+  pub counts : Counts files number
   pub known : HasFacts files number facts
+
+-- a declaration of the file that is in no other, with this full name
+record IsOutermost (files : List File) (number : ℕ) (full_name : List ℕ) : Type 0 where
+  facts : Facts
+  declaration : Declaration
+  known : HasFacts files number facts
+  listed : Contains facts.declarations declaration
+  outermost : length declaration.path ≡ 1
+  named : declaration.full_name ≡ full_name
+
+in-reachable : {files : List File} {number : ℕ} {name : List ℕ} → IsReachable files number
+    → IsOutermost files number name → HasOutermost files number name
+in-reachable reachable is = record {
+  facts = is.facts;
+  declaration = is.declaration;
+  is_reachable = reachable;
+  known = is.known;
+  listed = is.listed;
+  outermost = is.outermost;
+  named = is.named;
+}
+
+-- of two declarations with one full name, of which one is in a file with names of its own, both are one
+own-outermost : {files : List File} {m n : ℕ} {name : List ℕ} → HasOwnNames files m → IsOutermost files m name
+    → IsOutermost files n name → m ≡ n
+own-outermost {files} {m} {n} own is its =
+    let here = contained_at is.facts.declarations is.declaration is.listed in
+    let there = contained_at its.facts.declarations its.declaration its.listed in
+    ap (λ (at : DeclaredPlace). at.file)
+    (sym (own.own (place_at m here.0) (place_at n there.0) is.declaration its.declaration refl
+    (record { facts = is.facts; known = is.known; listed = here.1 })
+    (record { facts = its.facts; known = its.known; listed = there.1 }) (is.named ∙ sym its.named)))
+
+-- so too if one is in the file that protoc comes with, the other in one that some source sees
+seen-outermost : {files : List File} {m n : ℕ} {name : List ℕ} → IsApartFromSeen files m → IsReachable files n
+    → IsOutermost files m name → IsOutermost files n name → m ≡ n
+seen-outermost {files} {m} {n} apart seen is its =
+    let here = contained_at is.facts.declarations is.declaration is.listed in
+    let there = contained_at its.facts.declarations its.declaration its.listed in
+    ap (λ (at : DeclaredPlace). at.file)
+    (sym (apart.own (place_at m here.0) (place_at n there.0) is.declaration its.declaration refl (inr seen)
+    (record { facts = is.facts; known = is.known; listed = here.1 })
+    (record { facts = its.facts; known = its.known; listed = there.1 }) (is.named ∙ sym its.named)))
 
 -- ---- the way to a declaration, and what is before it
 
@@ -107,7 +154,7 @@ first-of-all : (path rest : List DeclarationStep) (first : DeclarationStep) → 
 first-of-all path rest first e = ap (λ (l : List DeclarationStep). take 1 (map (λ (step : DeclarationStep). step.name) l)) e
 
 -- what is listed by a function is that of an element
-from-map : {X Y : Type 0} (f : X → Y) (xs : List X) (y : Y) → Contains (map f xs) y
+pub from-map : {X Y : Type 0} (f : X → Y) (xs : List X) (y : Y) → Contains (map f xs) y
     → (x : X) × Contains xs x × (f x ≡ y)
 from-map f [] y h = absurd (in_nothing y h)
 from-map f (x ∷ xs) y h = elim (Contains-append_cases (f x ∷ []) (map f xs) y h) [
@@ -128,7 +175,7 @@ module _ (files : List File) (ids : Packages) (apart : AreApart files ids) where
 
   -- the outermost declaration on the way to one is there
   outermost-there : (number : ℕ) (facts : Facts) (d : Declaration) → AreCounted files number facts
-      → Contains facts.declarations d → HasOutermost files number (outermost_name facts d)
+      → Contains facts.declarations d → IsOutermost files number (outermost_name facts d)
   outermost-there number facts d counted listed =
       let some = All-contains (λ (x : Declaration). x.path ≢ []) facts.declarations d
       (apart.spelled.paths facts (apart.origins number facts counted.known)) listed in
@@ -137,7 +184,6 @@ module _ (files : List File) (ids : Packages) (apart : AreApart files ids) where
       record {
         facts = facts;
         declaration = holder.0;
-        is_reachable = counted.is_reachable;
         known = counted.known;
         listed = holder.1;
         outermost = ap length holder.2;
@@ -153,6 +199,25 @@ module _ (files : List File) (ids : Packages) (apart : AreApart files ids) where
   repeats earlier later name before had has =
       any-there (names_at ids.repeated later) name
       ((apart.repeated.exact later name).1 (record { has = has; earlier = earlier; before = before; had = had }))
+
+  -- so they are of one file where it is repeated in neither
+  one-outermost-file : (m n : ℕ) (name : List ℕ) → Counts files m → Counts files n → IsOutermost files m name
+      → IsOutermost files n name → list_any (bytes_eq name) (names_at ids.repeated m) ≡ false
+      → list_any (bytes_eq name) (names_at ids.repeated n) ≡ false → m ≡ n
+  one-outermost-file m n name (of_own own) b is its p q = own-outermost own is its
+  one-outermost-file m n name (of_reachable a) (of_own own) is its p q = sym (own-outermost own its is)
+  one-outermost-file m n name (of_descriptor at seen) (of_own own) is its p q = sym (own-outermost own its is)
+  one-outermost-file m n name (of_descriptor at seen) (of_reachable b) is its p q = seen-outermost seen b is its
+  one-outermost-file m n name (of_reachable a) (of_descriptor at seen) is its p q = sym (seen-outermost seen a its is)
+  one-outermost-file m n name (of_descriptor at seen) (of_descriptor there its_seen) is its p q =
+      apart.own m n at.0 there.0 at.1 there.1 (at.2 ∙ sym there.2)
+  one-outermost-file m n name (of_reachable a) (of_reachable b) is its p q = elim (cases_lt m n) [
+    | inl less ↦ never (sym q ∙ repeats m n name less (in-reachable a is) (in-reachable b its))
+    | inr more ↦ elim (cases_lt n m) [
+      | inl less ↦ never (sym p ∙ repeats n m name less (in-reachable b its) (in-reachable a is))
+      | inr same ↦ omega (arith, more, same)
+    ]
+  ]
 
   path-is : (number : ℕ) (facts : Facts) → (known : HasFacts files number facts) → path_at files number ≡ known.file.path
   path-is number facts known = ap path_if_there known.numbered
@@ -194,16 +259,37 @@ module _ (files : List File) (ids : Packages) (apart : AreApart files ids) where
       by false true p q same = absurd (no-package (path_at files n) m f (component_names g.package_name) a (sym same))
       by false false p q same =
           let one = one-outermost same in
-          elim (cases_lt m n) [
-            | inl less ↦ never (sym q ∙ repeats m n (outermost_name g e) less
-                (subst (HasOutermost files m) one (outermost-there m f d a listed)) (outermost-there n g e b its))
-            | inr more ↦ elim (cases_lt n m) [
-              | inl less ↦ never (sym p ∙ repeats n m (outermost_name f d) less
-                  (subst (HasOutermost files n) (sym one) (outermost-there n g e b its))
-                  (outermost-there m f d a listed))
-              | inr same ↦ omega (arith, more, same)
-            ]
-          ]
+          one-outermost-file m n (outermost_name f d) a.counts b.counts (outermost-there m f d a listed)
+          (subst (IsOutermost files n) (sym one) (outermost-there n g e b its)) p
+          (subst (λ (name : List ℕ). list_any (bytes_eq name) (names_at ids.repeated n) ≡ false) (sym one) q)
+
+  one-index : (m n i j : ℕ) (f g : Facts) (d e : Declaration) → AreCounted files m f → AreCounted files n g
+      → slice_get f.declarations i ≡ Some d → slice_get g.declarations j ≡ Some e → m ≡ n
+      → d.full_name ≡ e.full_name → i ≡ j
+  one-index m n i j f g d e a b at there numbers full = by a.counts b.counts
+    where
+      here : Stands files (place_at m i) d
+      here = record { facts = f; known = a.known; listed = at }
+
+      its : Stands files (place_at n j) e
+      its = record { facts = g; known = b.known; listed = there }
+
+      by : Counts files m → Counts files n → i ≡ j
+      by (of_own own) c =
+          ap (λ (place : DeclaredPlace). place.index)
+          (sym (own.own (place_at m i) (place_at n j) d e refl here its full))
+      by (of_reachable c) (of_own own) =
+          ap (λ (place : DeclaredPlace). place.index)
+          (own.own (place_at n j) (place_at m i) e d refl its here (sym full))
+      by (of_descriptor path seen) c =
+          ap (λ (place : DeclaredPlace). place.index)
+          (sym (seen.own (place_at m i) (place_at n j) d e refl (inl (sym numbers)) here its full))
+      by (of_reachable c) (of_descriptor path seen) =
+          ap (λ (place : DeclaredPlace). place.index)
+          (seen.own (place_at n j) (place_at m i) e d refl (inl numbers) its here (sym full))
+      by (of_reachable c) (of_reachable k) = (apart.one_name Keep files apart.origins apart.clear m i n j d e numbers
+          (record { facts = f; is_reachable = c; known = a.known; stands = at })
+          (record { facts = g; is_reachable = k; known = b.known; stands = there }) full).1
 
   -- in one file a full name is that of one declaration
   one-declaration : (m n : ℕ) (f g : Facts) (i j : ℕ) (d e : Declaration) → AreCounted files m f → AreCounted files n g
@@ -217,12 +303,10 @@ module _ (files : List File) (ids : Packages) (apart : AreApart files ids) where
       ∙ (ap (λ (x : Facts). dotted (component_names x.package_name ++ names_of d.path)) facts
       ∙ (ap (λ (l : List (List ℕ)). dotted (component_names g.package_name ++ l)) names
       ∙ sym (named n g e b (contained g.declarations j e there)))) in
-      let one = apart.one_name Keep files apart.origins apart.clear m i n j d e numbers
-      (record { facts = f; is_reachable = a.is_reachable; known = a.known; stands = at })
-      (record { facts = g; is_reachable = b.is_reachable; known = b.known; stands = there }) full in (
-        one.1,
+      let one = one-index m n i j f g d e a b at there numbers full in (
+        one,
         same_Some d e (sym (subst (λ (x : Facts). slice_get x.declarations j ≡ Some d) facts
-            (subst (λ k. slice_get f.declarations k ≡ Some d) one.1 at)) ∙ there),
+            (subst (λ k. slice_get f.declarations k ≡ Some d) one at)) ∙ there),
       )
 
   -- ---- two files that count

@@ -41,13 +41,13 @@ use Rattle.scip_model.proofs.ConditionLemmas.{path_from, path_to}
 use Rattle.scip_model.proofs.NamedLemmas.{declared_is}
 
 -- what a list gives, from its start
-record IsGivenAt {A B : Type 0} (gives : ℕ → A → List B) (xs : List A) (o : B) : Type 0 where
-  at : ℕ
-  item : A
-  item_is : slice_get xs at ≡ Some item
-  given : Contains (gives at item) o
+pub record IsGivenAt {A B : Type 0} (gives : ℕ → A → List B) (xs : List A) (o : B) : Type 0 where
+  pub at : ℕ
+  pub item : A
+  pub item_is : slice_get xs at ≡ Some item
+  pub given : Contains (gives at item) o
 
-given_at : {A B : Type 0} (gives : ℕ → A → List B) (xs : List A) (o : B) → Contains (each_from gives 0 xs) o
+pub given_at : {A B : Type 0} (gives : ℕ → A → List B) (xs : List A) (o : B) → Contains (each_from gives 0 xs) o
     → IsGivenAt gives xs o
 given_at {B = B} gives xs o h =
     let g = given_by gives 0 xs o h in
@@ -59,7 +59,7 @@ given_at {B = B} gives xs o h =
       given = subst (λ (n : ℕ). Contains (gives n g.item) o) same g.given;
     }
 
-gives_at : {A B : Type 0} (gives : ℕ → A → List B) (xs : List A) (o : B) (at : ℕ) (item : A)
+pub gives_at : {A B : Type 0} (gives : ℕ → A → List B) (xs : List A) (o : B) (at : ℕ) (item : A)
     → slice_get xs at ≡ Some item → Contains (gives at item) o → Contains (each_from gives 0 xs) o
 gives_at gives xs o at item e h =
     let same : at ≡ 0 + at = omega arith in
@@ -73,11 +73,11 @@ zip_at R (a ∷ xs) (b ∷ ys) all zero x e = let same : a ≡ x = same_Some _ _
     (b, refl, subst (λ (z : _). R z b) same all.0)
 zip_at R (a ∷ xs) (b ∷ ys) all (suc k) x e = zip_at R xs ys all.1 k x e
 
-if_so : {X : Type 0} (b : Bool) (xs : List X) (o : X) → Contains (if b then xs else []) o → (b ≡ true) × Contains xs o
+pub if_so : {X : Type 0} (b : Bool) (xs : List X) (o : X) → Contains (if b then xs else []) o → (b ≡ true) × Contains xs o
 if_so true xs o h = (refl, h)
 if_so false xs o h = absurd (not_in_none o h)
 
-so : {X : Type 0} (b : Bool) (xs : List X) (o : X) → b ≡ true → Contains xs o → Contains (if b then xs else []) o
+pub so : {X : Type 0} (b : Bool) (xs : List X) (o : X) → b ≡ true → Contains xs o → Contains (if b then xs else []) o
 so true xs o e h = h
 so false xs o e h = never e
 
@@ -101,11 +101,11 @@ kept_from chosen file index k = kept_of chosen file index (slice_get chosen file
 kept_to : (chosen : Chosen) (file index : ℕ) → IsKeptDeclaration chosen file index → keeps chosen file index ≡ true
 kept_to chosen file index kept = rw (kept.is_chosen.file_is, kept.is_chosen.declaration_is) kept.keeps
 
-shown_from : (chosen : Chosen) (part : Entity) → is_shown chosen part ≡ true → IsShown chosen part
+pub shown_from : (chosen : Chosen) (part : Entity) → is_shown chosen part ≡ true → IsShown chosen part
 shown_from chosen (link.Package count) e = tt
 shown_from chosen (link.Declared file index) e = kept_from chosen file index e
 
-shown_to : (chosen : Chosen) (part : Entity) → IsShown chosen part → is_shown chosen part ≡ true
+pub shown_to : (chosen : Chosen) (part : Entity) → IsShown chosen part → is_shown chosen part ≡ true
 shown_to chosen (link.Package count) shown = refl
 shown_to chosen (link.Declared file index) shown = kept_to chosen file index shown
 
@@ -141,13 +141,13 @@ module _ (files : List File) (ids : Packages) where
   declared_in_files file index None e entity h = absurd (none-some _ h)
   declared_in_files file index (Some f) e entity h = declared_in_file file index f e f.facts refl entity h
 
-  named_from : (name : List ℕ) (part : Entity) (entity : symbols.Entity)
+  pub named_from : (name : List ℕ) (part : Entity) (entity : symbols.Entity)
       → entity_of files ids name part ≡ Some entity → IsNamedAs files ids name part entity
   named_from name (link.Package count) entity e = sym (same_Some _ _ e)
   named_from name (link.Declared file index) entity e =
       declared_in_files file index (slice_get files file) refl entity e
 
-  named_to : (name : List ℕ) (part : Entity) (entity : symbols.Entity)
+  pub named_to : (name : List ℕ) (part : Entity) (entity : symbols.Entity)
       → IsNamedAs files ids name part entity → entity_of files ids name part ≡ Some entity
   named_to name (link.Package count) entity is = ap Some (sym is)
   named_to name (link.Declared file index) entity is =

@@ -39,7 +39,7 @@ one-list total IsWanted xs ys first second =
     (λ z there. (first.exact z).1 ((second.exact z).0 there))
 
 pub one-document : OneDocument
-one-document files chosen ids encoding source text document other first second =
+one-document asked files chosen ids encoding source text document other first second =
     let file : first.file ≡ second.file = same_Some first.file second.file (sym first.numbered ∙ second.numbered) in
     let path : document.relative_path ≡ other.relative_path =
     first.relative_path ∙ (ap (λ (f : File). f.path) file ∙ sym second.relative_path) in
@@ -58,10 +58,11 @@ one-document files chosen ids encoding source text document other first second =
     }
 
 pub one-list-of-externals : OneListOfExternals
-one-list-of-externals files chosen ids entries others first second = one-list infos_total _ entries others first second
+one-list-of-externals asked files texts chosen ids entries others first second =
+    one-list infos_total _ entries others first second
 
 pub one-index : OneIndex
-one-index files texts chosen ids encoding project_root index other first second =
+one-index asked files texts chosen ids encoding project_root index other first second =
     let metadata : index.metadata ≡ other.metadata = first.metadata_is ∙ sym second.metadata_is in
     let documents = one-list documents_total _ index.documents other.documents first.documents second.documents in
     let externals = one-list infos_total _ index.external_symbols other.external_symbols first.externals

@@ -1,11 +1,12 @@
 -- What the definitions say about documents, external entries and indexes, whatever the code does: there is one of
 -- each at most, and no two occurrences of a document tie.
-use Rattle.std.specs.Prelude.{◌≡◌, ℕ, Some, List, []}
+use Rattle.std.specs.Prelude.{◌≡◌, ℕ, Option, Some, List, []}
 use Rattle.std.specs.List.{slice_get}
 use Rattle.proto_decl.specs.Facts.{Facts}
 use Rattle.proto_decl.specs.declared.declaration.Declaration.{Declaration}
 use Rattle.proto_decl.specs.declared.uses.Component.{Component}
 use Rattle.proto_lex.specs.declared.position.Encoding.{Encoding}
+use Rattle.option_link.specs.declared.facts.OptionFacts.{OptionFacts}
 use Rattle.proto_visibility.specs.Files.{File}
 use Rattle.proto_visibility.specs.Clashes.{NoClash}
 use Rattle.proto_visibility.specs.declared.clash.Duplicates.TheVariants.{Refuse}
@@ -18,42 +19,48 @@ use Rattle.scip_symbol.specs.Package.{Package, IsPackage}
 use Rattle.scip_symbol.specs.Entities.{Entity, OfFile, IsEntity, symbol_in}
 use Rattle.scip_symbol.specs.SymbolText.{symbol_text}
 use Rattle.scip_symbol.specs.OneEntity.{IsWithoutClash, IsAmong}
-use Rattle.scip_model.specs.Packages.{Packages, RepeatedNames, names_at, package_of_path, package_of_file, package_of_part}
+use Rattle.scip_model.specs.Packages.{Packages, RepeatedNames, names_at}
+use Rattle.scip_model.specs.Packages.{package_of_path, package_of_file, package_of_part}
 use Rattle.scip_model.specs.Chosen.{Chosen}
 use Rattle.scip_model.specs.Named.{HasDeclaration, NamesIn, text_of, declaration_in, home_of_file}
 use Rattle.scip_model.specs.Repeated.{AreRepeated}
 use Rattle.scip_model.specs.Entries.{IsKeptEntry}
-use Rattle.scip_model.specs.Indexes.{AreExternals, IsDocumentOf, IsIndexOf}
-use Rattle.scip_model.specs.Occurs.{Occurs}
+use Rattle.scip_model.specs.Indexes.{AreExternalsWith, IsDocumentWith, IsIndexWith}
+use Rattle.scip_model.specs.Options.{OccursWith}
 use Rattle.scip_model.specs.Conditions.{HasText}
+
+-- In each of these names in options are linked, or not (`asked`).
 
 -- a source with a text has one document at most
 abbrev pub OneDocument : Type 0
 OneDocument =
-    (files : List File) (chosen : Chosen) (ids : Packages) (encoding : Encoding) (source : ℕ) (text : List ℕ)
-    (document other : Document)
-    → IsDocumentOf files chosen ids encoding source text document
-    → IsDocumentOf files chosen ids encoding source text other → document ≡ other
+    (asked : Option (List OptionFacts)) (files : List File) (chosen : Chosen) (ids : Packages) (encoding : Encoding)
+    (source : ℕ) (text : List ℕ) (document other : Document)
+    → IsDocumentWith asked files chosen ids encoding source text document
+    → IsDocumentWith asked files chosen ids encoding source text other → document ≡ other
 
--- files have one list of external entries at most
+-- files, which have these texts, have one list of external entries at most
 abbrev pub OneListOfExternals : Type 0
-OneListOfExternals = (files : List File) (chosen : Chosen) (ids : Packages) (entries others : List SymbolInformation)
-    → AreExternals files chosen ids entries → AreExternals files chosen ids others → entries ≡ others
+OneListOfExternals =
+    (asked : Option (List OptionFacts)) (files : List File) (texts : List (List ℕ)) (chosen : Chosen) (ids : Packages)
+    (entries others : List SymbolInformation) → AreExternalsWith asked files texts chosen ids entries
+    → AreExternalsWith asked files texts chosen ids others → entries ≡ others
 
 -- files with texts have one index at most
 abbrev pub OneIndex : Type 0
-OneIndex = (files : List File) (texts : List (List ℕ)) (chosen : Chosen) (ids : Packages) (encoding : Encoding)
-    (project_root : List ℕ) (index other : Index)
-    → IsIndexOf files texts chosen ids encoding project_root index
-    → IsIndexOf files texts chosen ids encoding project_root other → index ≡ other
+OneIndex =
+    (asked : Option (List OptionFacts)) (files : List File) (texts : List (List ℕ)) (chosen : Chosen) (ids : Packages)
+    (encoding : Encoding) (project_root : List ℕ) (index other : Index)
+    → IsIndexWith asked files texts chosen ids encoding project_root index
+    → IsIndexWith asked files texts chosen ids encoding project_root other → index ≡ other
 
 -- occurrences of a document with one range and one symbol are one occurrence: none tie in the order of its list
 abbrev pub NoTies : Type 0
 NoTies =
-    (files : List File) (chosen : Chosen) (ids : Packages) (encoding : Encoding) (source : ℕ) (text : List ℕ)
-    → HasText files source text
-    → (occurrence other : Occurrence) → Occurs files chosen ids encoding source text occurrence
-    → Occurs files chosen ids encoding source text other
+    (asked : Option (List OptionFacts)) (files : List File) (chosen : Chosen) (ids : Packages) (encoding : Encoding)
+    (source : ℕ) (text : List ℕ) → HasText files source text
+    → (occurrence other : Occurrence) → OccursWith asked files chosen ids encoding source text occurrence
+    → OccursWith asked files chosen ids encoding source text other
     → occurrence.range ≡ other.range → occurrence.symbol ≡ other.symbol → occurrence ≡ other
 
 -- in declarations without a clash, entities whose symbols have one text are one entity, in whatever packages
@@ -105,4 +112,5 @@ pub record SymbolsMeet : Type 0 where
       (facts : Facts) (declared : Declaration) (entry : SymbolInformation)
       → IsShared files others ids theirs number other → HasDeclaration files number index facts declared
       → IsKeptEntry others chosen theirs other index entry
-      → text_of (package_of_file files ids number) (declaration_in (home_of_file files ids number) facts declared) ≡ entry.symbol
+      → text_of (package_of_file files ids number) (declaration_in (home_of_file files ids number) facts declared)
+      ≡ entry.symbol

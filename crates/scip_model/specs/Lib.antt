@@ -19,6 +19,8 @@ pub mod Detailed
 pub mod Occurs
 pub mod OccurrenceOrder
 pub mod Entries
+-- the same of names in options, where they are asked for
+pub mod Options
 -- what is asked of files, which uses name no type, and why a document is refused
 pub mod Conditions
 -- documents, external entries, and the index of a tree

@@ -1,7 +1,8 @@
 -- What is said of what the document of a source is made from (`DocumentMaker`): its files, what was chosen for their
 -- declarations, the packages of their symbols, the encoding, the source's number and its text. Each word is another
 -- file's, of these parts.
-use Rattle.std.specs.Prelude.{ℕ, List, Option, ◌<◌, length}
+use Rattle.std.specs.Prelude.{ℕ, List, Option, Some, ◌≡◌, ◌<◌, length}
+use Rattle.std.specs.List.{slice_get}
 use Rattle.std.specs.Option.{option_map}
 use Rattle.proto_lex.specs.Lexed.{IsPart}
 use Rattle.proto_lex.specs.declared.span.Span.{Span}
@@ -24,7 +25,15 @@ use Rattle.index_hooks.specs.declared.choice.Choice.{Choice}
 use Rattle.scip_model.specs.Chosen.{HasChoice, HaveChoices}
 use Rattle.scip_model.specs.Conditions.{HaveGoodPaths, AreUnresolvedUses, IsFound}
 use Rattle.scip_model.specs.Entries.{HasEntry}
-use Rattle.scip_model.specs.Indexes.{IsDocumentOf}
+use Rattle.scip_model.specs.Indexes.{IsDocumentOf, IsDocumentWith}
+use Rattle.scip_model.specs.Options.{AreOptionGapsIf, IsOptionGap, OccursWith}
+use Rattle.scip_model.specs.Tables.OptionListing.{OccursByOption, OccursByTarget, OccursInOptionsIf}
+use Rattle.option_link.specs.OptionNames.{IsOptionTarget}
+use Rattle.option_link.specs.declared.place.DeclaredPlace.{DeclaredPlace}
+use Rattle.option_link.specs.declared.target.OptionTarget.{OptionTarget}
+use Rattle.proto_options.specs.declared.options.FileOption.{FileOption}
+use Rattle.option_link.specs.Linked.{LinkedOptions}
+use Rattle.option_link.specs.declared.facts.OptionFacts.{OptionFacts}
 use Rattle.scip_model.specs.Named.{HasDeclaration, Home, home_of_file, text_of}
 use Rattle.scip_model.specs.Occurs.{Occurs}
 use Rattle.scip_model.specs.Packages.{package_of_file, package_of_part}
@@ -146,7 +155,8 @@ module _ (maker : DocumentMaker) where
       at_component maker.package.now.ids maker.encoding maker.text.now maker.package.now.files maker.choices.now
 
   abbrev pub at_its_target : Option Target → Use → List Occurrence
-  at_its_target = at_target maker.package.now.ids maker.encoding maker.text.now maker.package.now.files maker.choices.now
+  at_its_target =
+      at_target maker.package.now.ids maker.encoding maker.text.now maker.package.now.files maker.choices.now
 
   abbrev pub at_its_use : List (Option Target) → ℕ → Use → List Occurrence
   at_its_use = at_use maker.package.now.ids maker.encoding maker.text.now maker.package.now.files maker.choices.now
@@ -162,10 +172,63 @@ module _ (maker : DocumentMaker) where
 
   abbrev pub IsItsDocument : Document → Type 0
   IsItsDocument =
-      IsDocumentOf maker.package.now.files maker.choices.now maker.package.now.ids maker.encoding maker.source maker.text.now
+      IsDocumentOf maker.package.now.files maker.choices.now maker.package.now.ids maker.encoding maker.source
+      maker.text.now
 
   abbrev pub AreItsGaps : List Span → Type 0
   AreItsGaps = AreUnresolvedUses maker.package.now.files maker.source
+
+  abbrev pub IsItsDocumentWith : (asked : Option (List OptionFacts)) → Document → Type 0
+  IsItsDocumentWith asked =
+      IsDocumentWith asked maker.package.now.files maker.choices.now maker.package.now.ids maker.encoding maker.source
+      maker.text.now
+
+  abbrev pub OccursWithIn : (asked : Option (List OptionFacts)) → Occurrence → Type 0
+  OccursWithIn asked =
+      OccursWith asked maker.package.now.files maker.choices.now maker.package.now.ids maker.encoding maker.source
+      maker.text.now
+
+  -- ---- its options, if names in them are linked
+
+  -- of the same files
+  abbrev pub HasOptions : LinkedOptions → Type 0
+  HasOptions options = options.files ≡ maker.package.now.files
+
+  abbrev pub IsItsOptionTarget : (known : List OptionFacts) → FileOption → OptionTarget → Type 0
+  IsItsOptionTarget known = IsOptionTarget maker.package.now.files known maker.source maker.text.now
+
+  -- a declaration at a place; and these parts of its full name have symbols
+  abbrev pub IsDeclaredAt : DeclaredPlace → Facts → Declaration → Type 0
+  IsDeclaredAt place = HasDeclaration maker.package.now.files place.file place.index
+
+  abbrev pub CanNameAt : DeclaredPlace → List Entity → Type 0
+  CanNameAt place parts = (facts : Facts) (declared : Declaration) → IsDeclaredAt place facts declared
+      → (index : ℕ) (part : Entity) → slice_get parts index ≡ Some part → CanName declared.full_name part
+
+  -- over the components of a name with these parts
+  abbrev pub at_its_name : (full_name : List ℕ) → List Entity → ℕ → Span → List Occurrence
+  at_its_name full_name parts index span = at_its_part full_name span (slice_get parts index)
+
+  abbrev pub OccursByItsTarget : (known : List OptionFacts) → FileOption → OptionTarget → Occurrence → Type 0
+  OccursByItsTarget known =
+      OccursByTarget maker.package.now.files known maker.choices.now maker.package.now.ids maker.encoding maker.source
+      maker.text.now
+
+  abbrev pub OccursByItsOption : (known : List OptionFacts) → FileOption → Occurrence → Type 0
+  OccursByItsOption known =
+      OccursByOption maker.package.now.files known maker.choices.now maker.package.now.ids maker.encoding maker.source
+      maker.text.now
+
+  abbrev pub OccursInItsOptions : (asked : Option (List OptionFacts)) → Occurrence → Type 0
+  OccursInItsOptions asked =
+      OccursInOptionsIf asked maker.package.now.files maker.choices.now maker.package.now.ids maker.encoding
+      maker.source maker.text.now
+
+  abbrev pub IsItsOptionGap : (known : List OptionFacts) → FileOption → Span → Type 0
+  IsItsOptionGap known = IsOptionGap maker.package.now.files known maker.source maker.text.now
+
+  abbrev pub AreItsOptionGaps : (asked : Option (List OptionFacts)) → List Span → Type 0
+  AreItsOptionGaps asked = AreOptionGapsIf asked maker.package.now.files maker.source maker.text.now
 
   abbrev pub HasResolvedUses : Type 0
   HasResolvedUses = UsesResolve maker.package.now.files maker.source

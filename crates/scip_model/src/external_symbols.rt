@@ -9,8 +9,8 @@ ghost use Rattle.scip_model.specs.Chosen.{HasChoice, HaveChoices};
 ghost use Rattle.scip_model.specs.Entries.{IsKeptEntry};
 ghost use Rattle.scip_model.specs.Tables.ExternalLists.{Pair, pair_cmp, IsEntryAt, IsEntryOf, Adds, FromFront};
 ghost use Rattle.scip_model.specs.Tables.ExternalLists.{IsKnownPart, IsOfPart, IsOfUse, IsOfSource, IsExternal};
-ghost use Rattle.scip_model.specs.Tables.ExternalLists.{NoneIncluded, NoneSeen};
-ghost use Rattle.scip_model.specs.Indexes.{AreExternals};
+ghost use Rattle.scip_model.specs.Tables.ExternalLists.{HasEntryAmong, IsKeptThere, NoneIncluded, NoneSeen};
+ghost use Rattle.scip_model.specs.Indexes.{AreExternals, IsAscendingListOf, info_cmp};
 
 use crate::document_maker::Choices;
 use crate::entries::{compare_symbols, declaration_entry};
@@ -64,7 +64,7 @@ fn push_part(
 }
 
 /// Appends those of the parts of a name.
-fn push_parts(
+pub(crate) fn push_parts(
     named: &mut Vec<(usize, usize)>,
     linker: &Linker<'_, '_>,
     choices: &Choices,
@@ -170,7 +170,7 @@ fn push_source(
 }
 
 /// Those that the uses of all sources name. No file before `first` is included.
-fn named_externals(
+pub(crate) fn named_externals(
     alloc: Global,
     linker: &Linker<'_, '_>,
     choices: &Choices,
@@ -198,7 +198,7 @@ fn without_doubles(named: Vec<(usize, usize)>) -> Result<Vec<(usize, usize)>, Al
     Ok(named)
 }
 
-/// The entry of a declaration that is kept.
+/// The entry of a declaration of a file with these facts.
 fn external_entry(
     alloc: Global,
     home: &Home<'_>,
@@ -217,7 +217,7 @@ fn external_entry(
     declaration_entry(alloc, home, facts, declaration, index, choice)
 }
 
-/// The entry of a declaration that a use in a source names, of an included file, and that is kept.
+/// The entry of a declaration that is kept.
 fn entry_of(
     alloc: Global,
     named: &SymbolPackages<'_, '_, '_>,
@@ -225,7 +225,7 @@ fn entry_of(
     pair: (usize, usize),
 ) -> Result<SymbolInformation, AllocError>
     requires choices { HaveChoices named.now.files choices.now }
-    requires external { IsExternal named.now.files choices.now (length named.now.files) pair }
+    requires there { IsKeptThere named.now.files choices.now pair }
     ensures { IfOk result (IsKeptEntry named.now.files choices.now named.now.ids pair.0 pair.1) }
 {
     let facts = named.linker().facts_of(pair.0).unwrap();
@@ -241,7 +241,7 @@ fn external_entries(
     pairs: &[(usize, usize)],
 ) -> Result<Vec<SymbolInformation>, AllocError>
     requires choices { HaveChoices named.now.files choices.now }
-    requires external { All (IsExternal named.now.files choices.now (length named.now.files)) pairs.now }
+    requires there { All (IsKeptThere named.now.files choices.now) pairs.now }
     ensures { IfOk result (λ entries.
         AllZip (IsEntryOf named.now.files choices.now named.now.ids) pairs.now entries.items) }
 {
@@ -254,7 +254,7 @@ fn external_entries(
 }
 
 /// The number of the first file that is included, or else how many files there are.
-fn first_included(linker: &Linker<'_, '_>) -> usize
+pub(crate) fn first_included(linker: &Linker<'_, '_>) -> usize
     ensures { NoneIncluded linker.now result }
 {
     let count = linker.count();
@@ -264,6 +264,26 @@ fn first_included(linker: &Linker<'_, '_>) -> usize
         }
     }
     count
+}
+
+/// The entries of these declarations, which are kept and in files that count, by symbol, each once.
+pub(crate) fn entries_by_symbol(
+    alloc: Global,
+    named: &SymbolPackages<'_, '_, '_>,
+    choices: &Choices,
+    pairs: Vec<(usize, usize)>,
+) -> Result<Sequence<SymbolInformation>, AllocError>
+    requires choices { HaveChoices named.now.files choices.now }
+    requires there { (x : Pair) → Contains pairs.items x → IsKeptThere named.now.files choices.now x }
+    ensures { IfOk result (IsAscendingListOf info_cmp
+        (HasEntryAmong named.now.files choices.now named.now.ids pairs.items)) }
+{
+    // From here on it is known that no two of them have one symbol.
+    symbols_stand_apart(named);
+    let once = without_doubles(pairs)?;
+    let mut entries = external_entries(alloc, named, choices, once.as_slice())?;
+    entries.sort_by(|a, b| compare_symbols(a, b))?;
+    Ok(Sequence::from_vec(entries))
 }
 
 /// The external symbol entries of linked files, by symbol: one for each declaration of an included
@@ -287,10 +307,6 @@ pub fn externals_in_packages(
     if first == linker.count() {
         return Ok(Sequence::new(alloc));
     }
-    symbols_stand_apart(named);
     let pairs = named_externals(alloc, linker, choices, first)?;
-    let once = without_doubles(pairs)?;
-    let mut entries = external_entries(alloc, named, choices, once.as_slice())?;
-    entries.sort_by(|a, b| compare_symbols(a, b))?;
-    Ok(Sequence::from_vec(entries))
+    entries_by_symbol(alloc, named, choices, pairs)
 }

@@ -13,8 +13,11 @@ mod document_plan;
 mod source_document;
 
 // Its occurrences, in order.
+mod known_parts;
 mod occurrence_order;
 mod occurrences;
+mod option_occurrences;
+mod option_parts;
 mod targets;
 mod use_occurrences;
 
@@ -28,6 +31,7 @@ mod symbol_table;
 mod symbol_texts;
 
 // Entries of what is outside, and a whole index.
+mod external_options;
 mod external_symbols;
 mod one_package;
 mod pieces;
@@ -37,6 +41,7 @@ mod laws;
 
 pub use document_maker::{Choices, DocumentMaker};
 pub use document_plan::{DocumentPlan, PlannedDocument};
+pub use external_options::externals_with_options;
 pub use external_symbols::externals_in_packages;
 pub use laws::{
     no_two_occurrences_tie, nothing_is_repeated, one_document_a_source, one_index,
@@ -50,7 +55,10 @@ pub use scip_records::{
     BoxedDetails, Details, Document, Index, Metadata, Occurrence, Range, Signature,
     SymbolInformation, ToolInfo,
 };
-pub use source_document::{SourceDocument, document_and_unresolved, make_document, plan_document};
+pub use source_document::{
+    PlannedWithOptions, SourceDocument, document_and_unresolved, make_document, plan_document,
+    plan_with_options,
+};
 pub use streams::{Failed, Feed, Sink, Std};
 /// What is known of a symbol.
 pub type Info = SymbolInformation;

@@ -2,9 +2,11 @@
 
 ghost use Rattle.std.specs.Prelude.{◌≡◌, IfOk, map};
 ghost use Rattle.std.specs.Ordering.{on};
+ghost use Rattle.std.specs.List.Sorted.{IsStrictlySortedBy};
 ghost use Rattle.scip_model.specs.OccurrenceOrder.{occurrence_cmp};
-ghost use Rattle.scip_model.specs.Tables.Plans.{Around, occurrence_of};
-ghost use Rattle.scip_model.specs.Tables.Merges.{IsMerged, AreUntied, TakesLeast, fronts_cmp};
+ghost use Rattle.scip_model.specs.Tables.Plans.{Around, occurrence_of, planned_cmp};
+ghost use Rattle.scip_model.specs.Tables.Merges.{AreUntied, IsMadeSingle, IsMerged, IsMergedApart};
+ghost use Rattle.scip_model.specs.Tables.Merges.{TakesLeast, fronts_cmp};
 
 use crate::document_plan::PlannedOccurrence;
 use crate::symbol_table::SymbolTable;
@@ -18,8 +20,9 @@ fn compare_occurrences(
     a: &PlannedOccurrence,
     b: &PlannedOccurrence,
 ) -> Ordering
-    ensures { (around : Around) → result ≡ occurrence_cmp (occurrence_of around texts.now a.now)
+    ensures each { (around : Around) → result ≡ occurrence_cmp (occurrence_of around texts.now a.now)
         (occurrence_of around texts.now b.now) }
+    ensures plain { result ≡ planned_cmp texts.now a.now b.now }
 {
     let start = a.range.start_line().cmp(&b.range.start_line());
     let start = start.then(a.range.start_column().cmp(&b.range.start_column()));
@@ -67,18 +70,23 @@ fn take_least(
     }
 }
 
-/// Two lists in order as one, in linear time. The symbols have these texts. It is for lists of which only equal
-/// occurrences are tied: of two that are, one is let go.
+/// Two lists in order as one, in linear time. The symbols have these texts. Of two occurrences that are tied, that of
+/// the second list is let go.
 pub(crate) fn merged(
     alloc: Global,
     texts: &SymbolTable,
     first: Vec<PlannedOccurrence>,
     second: Vec<PlannedOccurrence>,
 ) -> Result<Vec<PlannedOccurrence>, AllocError>
-    ensures { IfOk result (λ both. (around : Around)
+    ensures untied { IfOk result (λ both. (around : Around)
         → AreUntied occurrence_cmp
         (map (occurrence_of around texts.now) first.items) (map (occurrence_of around texts.now) second.items)
         → IsMerged occurrence_cmp (map (occurrence_of around texts.now) first.items)
+        (map (occurrence_of around texts.now) second.items) (map (occurrence_of around texts.now) both.items)) }
+    ensures apart { IfOk result (λ both. (around : Around)
+        → IsStrictlySortedBy occurrence_cmp (map (occurrence_of around texts.now) first.items)
+        → IsStrictlySortedBy occurrence_cmp (map (occurrence_of around texts.now) second.items)
+        → IsMergedApart occurrence_cmp (map (occurrence_of around texts.now) first.items)
         (map (occurrence_of around texts.now) second.items) (map (occurrence_of around texts.now) both.items)) }
 {
     let mut both = Vec::with_capacity(alloc, first.len().saturating_add(second.len()))?;
@@ -88,4 +96,18 @@ pub(crate) fn merged(
         both.push(next)?;
     }
     Ok(both)
+}
+
+/// A list in order, with one of those that are tied. The symbols have these texts.
+pub(crate) fn in_order(
+    texts: &SymbolTable,
+    list: Vec<PlannedOccurrence>,
+) -> Result<Vec<PlannedOccurrence>, AllocError>
+    ensures { IfOk result (λ once. (around : Around) → IsMadeSingle occurrence_cmp
+        (map (occurrence_of around texts.now) list.items) (map (occurrence_of around texts.now) once.items)) }
+{
+    let mut list = list;
+    list.sort_by(|a, b| compare_occurrences(texts, a, b))?;
+    list.dedup_by(|a, b| compare_occurrences(texts, a, b).is_eq());
+    Ok(list)
 }

@@ -167,7 +167,7 @@ fn file_number(
         (text_of (package_of_path maker.now.package.now.ids path.now) (OfFile path.now))) }
 {
     let text = file_text(maker.alloc, maker.package.of_path(path), path)?;
-    let number = texts.number_of(maker.alloc, FILE, text.as_str())?;
+    let number = texts.number_of(FILE, text)?;
     Ok(number)
 }
 

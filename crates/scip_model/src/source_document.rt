@@ -1,21 +1,25 @@
 //! The document of a source.
 
-ghost use Rattle.std.specs.Prelude.{◌≡◌, [], IfOk, IfErr, OnOk, map};
+ghost use Rattle.std.specs.Prelude.{◌≡◌, [], ⊤, Some, IfOk, IfErr, OnOk, MatchOption, map};
 ghost use Rattle.std.specs.List.{slice_get};
+ghost use Rattle.std.specs.Option.{option_map};
 ghost use Rattle.proto_visibility.specs.declared.fault.LinkFault.TheVariants.{Memory};
 ghost use Rattle.scip_model.specs.Indexes.{IsAscendingListOf};
 ghost use Rattle.scip_model.specs.OccurrenceOrder.{occurrence_cmp};
 ghost use Rattle.scip_model.specs.Tables.Plans.{Grown, occurrence_of};
 ghost use Rattle.scip_model.specs.Makers.{
   AreItsGaps,
+  AreItsOptionGaps,
   HasChosen,
   HasGoodPaths,
+  HasOptions,
   HasResolvedUses,
   HasSourceFacts,
   HasSourcePath,
   HasSourceText,
   HasTextFor,
   IsItsDocument,
+  IsItsDocumentWith,
   IsOfSource,
   MayRefuseIts,
   OccursIn,
@@ -32,10 +36,12 @@ use crate::occurrences::{
     declaration_occurrences, declaration_ranges, import_occurrences, own_occurrences,
     package_occurrences,
 };
+use crate::option_occurrences::{occurrences_if_asked, with_options};
 use crate::symbol_table::SymbolTable;
 use crate::symbol_texts::{arounds_in, own_texts};
 use crate::use_occurrences::use_occurrences;
 use basics::Sequence;
+use option_link::OptionLinker;
 use proto_decl::FileFacts;
 use proto_lex::Span;
 use proto_link::{FilePlace, LinkFault};
@@ -87,6 +93,15 @@ pub struct SourceDocument {
     pub unresolved: Sequence<Span>,
 }
 
+/// The plan of the document of a source with what its options name, and the places of the gaps of these.
+#[derive(Drop)]
+pub struct PlannedWithOptions<'a, 't> {
+    /// The plan, and the places of the source's uses that name no type.
+    pub planned: PlannedDocument<'a, 't>,
+    /// The place of each option's first name that names nothing, and should: option by option.
+    pub option_gaps: Sequence<Span>,
+}
+
 /// The plan of the document of a source of linked files, which has this text, by what was chosen for each
 /// declaration: what occurs in it and its symbol entries, in order. A use that names no type doesn't
 /// occur; its place is told beside the document. `Memory` is the only fault. What is asked of the maker's parts is
@@ -102,6 +117,57 @@ pub fn plan_document<'a, 'f>(
     ensures unresolved_uses { IfOk result (λ made. AreItsGaps maker.now made.unresolved) }
     ensures refused { IfErr result (λ fault. fault ≡ Memory) }
 {
+    let mut gaps = Vec::new(maker.alloc);
+    plan_asked(maker, None, &mut gaps)
+}
+
+/// The same with what the names in its options name, and the places of the gaps of its options: of each option that has
+/// one the first name that names nothing, and should. Such a name doesn't occur.
+///
+/// `options` has to be of the same files.
+pub fn plan_with_options<'a, 'f>(
+    maker: &DocumentMaker<'a, '_, 'f, '_>,
+    options: &OptionLinker<'_, '_, '_>,
+) -> Result<PlannedWithOptions<'a, 'f>, LinkFault>
+    requires source { IsOfSource maker.now }
+    requires text { HasSourceText maker.now }
+    requires paths { HasGoodPaths maker.now }
+    requires choices { HasChosen maker.now }
+    requires options { HasOptions maker.now options.now }
+    ensures document { IfOk result (λ made. IsItsDocumentWith maker.now (Some options.now.known)
+        made.planned.document) }
+    ensures unresolved_uses { IfOk result (λ made. AreItsGaps maker.now made.planned.unresolved) }
+    ensures option_gaps { IfOk result (λ made. AreItsOptionGaps maker.now (Some options.now.known) made.option_gaps) }
+    ensures refused { IfErr result (λ fault. fault ≡ Memory) }
+{
+    let mut gaps = Vec::new(maker.alloc);
+    let planned = plan_asked(maker, Some(options), &mut gaps)?;
+    Ok(PlannedWithOptions {
+        planned,
+        option_gaps: Sequence::from_vec(gaps),
+    })
+}
+
+/// The plan of the document of a source, with what the names in its options name if it is asked for. The places of
+/// the gaps of its options are added to `gaps`.
+fn plan_asked<'a, 'f>(
+    maker: &DocumentMaker<'a, '_, 'f, '_>,
+    options: Option<&OptionLinker<'_, '_, '_>>,
+    gaps: &mut Vec<Span>,
+) -> Result<PlannedDocument<'a, 'f>, LinkFault>
+    requires source { IsOfSource maker.now }
+    requires text { HasSourceText maker.now }
+    requires paths { HasGoodPaths maker.now }
+    requires choices { HasChosen maker.now }
+    requires options { MatchOption options ⊤ (λ linked. HasOptions maker.now linked.now) }
+    requires empty { gaps.old.items ≡ [] }
+    ensures document { IfOk result (λ made.
+        IsItsDocumentWith maker.now (option_map (λ linked. linked.now.known) options.entry) made.document) }
+    ensures unresolved_uses { IfOk result (λ made. AreItsGaps maker.now made.unresolved) }
+    ensures option_gaps { OnOk result
+        (AreItsOptionGaps maker.now (option_map (λ linked. linked.now.known) options.entry) gaps.new.items) }
+    ensures refused { IfErr result (λ fault. fault ≡ Memory) }
+{
     // From here on it is known that no names of the files clash, and that their facts are those of texts.
     let linker = maker.package.linker();
     linker.linked();
@@ -111,8 +177,10 @@ pub fn plan_document<'a, 'f>(
     let home = maker.package.home_of(maker.source);
     let own = own_texts(alloc, &home, maker.package.run(), facts)?;
     let mut texts = SymbolTable::new(alloc, own);
+    let of_options = occurrences_if_asked(maker, options, gaps, &mut texts)?;
     let mut unresolved = Vec::new(alloc);
-    let occurrences = occurrences(maker, path, facts, &mut unresolved, &mut texts)?;
+    let besides = occurrences(maker, path, facts, &mut unresolved, &mut texts)?;
+    let occurrences = with_options(alloc, &texts, besides, of_options)?;
     let packages = package_names(alloc, facts.package_name())?;
     let arounds = arounds_in(alloc, &home, facts)?;
     let ranges = declaration_ranges(maker, facts)?;

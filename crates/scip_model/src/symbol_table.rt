@@ -8,6 +8,7 @@ ghost use Rattle.std.specs.String.{string_bytes};
 ghost use Rattle.scip_model.specs.Tables.Plans.{text_at, Grown, IsNumberOf, declaration_number};
 
 use crate::own_symbols::OwnSymbols;
+use basics::OwnedText;
 use indexmap::IndexSet;
 use proto_decl::FileFacts;
 use scip_records::SymbolRef;
@@ -58,27 +59,13 @@ pub(crate) fn declaration_number(facts: &FileFacts, index: usize) -> Result<u32,
     Ok(number)
 }
 
-/// The place of a text that is added, unless it is there.
-fn insert_text(others: &mut IndexSet<String>, text: String) -> Result<usize, AllocError>
+/// The place of a text, which is added if it isn't there.
+fn place_of(others: &mut IndexSet<String>, text: String) -> Result<usize, AllocError>
     ensures grown { OnOk result (Grown (map string_bytes others.old.keys) (map string_bytes others.new.keys)) }
     ensures stored { IfOk result (λ index.
         slice_get (map string_bytes others.new.keys) index ≡ Some (string_bytes text)) }
 {
     let (index, _) = others.insert_full(text)?;
-    Ok(index)
-}
-
-/// The place of a text, of which a copy is added if it isn't there.
-fn place_of(alloc: Global, others: &mut IndexSet<String>, text: &str) -> Result<usize, AllocError>
-    ensures grown { OnOk result (Grown (map string_bytes others.old.keys) (map string_bytes others.new.keys)) }
-    ensures stored { IfOk result (λ index.
-        slice_get (map string_bytes others.new.keys) index ≡ Some text.now) }
-{
-    if let Some(index) = others.get_index_of(text) {
-        return Ok(index);
-    }
-    let copy = String::from_str(alloc, text)?;
-    let index = insert_text(others, copy)?;
     Ok(index)
 }
 
@@ -94,21 +81,16 @@ impl SymbolTable {
     }
 
     /// The number of a text. It is `own` if the source's own text with that number is the same. Or else it is that of
-    /// one of the other texts, to which a copy is added if it isn't there.
-    pub(crate) fn number_of(
-        &mut self,
-        alloc: Global,
-        own: usize,
-        text: &str,
-    ) -> Result<u32, AllocError>
+    /// one of the other texts, to which it is added if it isn't there.
+    pub(crate) fn number_of(&mut self, own: usize, text: OwnedText) -> Result<u32, AllocError>
         ensures grown { OnOk result (Grown self.old self.new) }
-        ensures number { IfOk result (IsNumberOf self.new text.now) }
+        ensures number { IfOk result (IsNumberOf self.new text) }
     {
-        if self.own.has(own, text) {
+        if self.own.has(own, text.as_str()) {
             let number = number_at(own)?;
             return Ok(number);
         }
-        let index = place_of(alloc, &mut self.others, text)?;
+        let index = place_of(&mut self.others, text.into_string())?;
         let number = number_at(self.own.len().saturating_add(index))?;
         Ok(number)
     }

@@ -1,9 +1,12 @@
-//! What a use of a source names.
+//! What a use of a source names, and where that is which a name in an option names.
 
-ghost use Rattle.std.specs.Prelude.{◌≡◌, ◌<◌, ◌++◌, length, IfOk, OnOk};
+ghost use Rattle.std.specs.Prelude.{◌≡◌, ◌<◌, ◌++◌, length, IfOk, MatchOption, OnOk};
 ghost use Rattle.scip_model.specs.Conditions.{IsFound};
 ghost use Rattle.scip_model.specs.Tables.Listing.{Finds, parts_of, unless_found};
+ghost use Rattle.scip_model.specs.Tables.OptionListing.{IsCountedPlace, IsLastPart};
+ghost use Rattle.option_link.specs.declared.place.DeclaredPlace.{DeclaredPlace};
 
+use option_link::{DeclaredPlace, OptionLinker};
 use proto_decl::Use;
 use proto_lex::Span;
 use proto_link::{Entity, LinkFault, Linker, Target};
@@ -55,4 +58,37 @@ pub(crate) fn add_unresolved(
         spans.push(span)?;
     }
     Ok(())
+}
+
+/// Where the last of these parts is declared, if it is a declaration.
+fn last_place(parts: &[Entity]) -> Option<DeclaredPlace>
+    ensures { MatchOption result ((at : DeclaredPlace) → IsLastPart parts.now at → ⊥) (IsLastPart parts.now) }
+{
+    match parts.last() {
+        Some(Entity::Declared(file, index)) => Some(DeclaredPlace {
+            file: *file,
+            index: *index,
+        }),
+        _ => None,
+    }
+}
+
+/// The same, if that is in a file that counts.
+pub(crate) fn counted_place(
+    options: &OptionLinker<'_, '_, '_>,
+    parts: &[Entity],
+) -> Option<DeclaredPlace>
+    requires { (at : DeclaredPlace) → IsLastPart parts.now at → at.file < length options.now.files }
+    ensures { IsCountedPlace options.now.files parts.now result }
+{
+    match last_place(parts) {
+        Some(place) => {
+            if options.counts(place.file) {
+                Some(place)
+            } else {
+                None
+            }
+        }
+        None => None,
+    }
 }

@@ -52,7 +52,7 @@ use scip_symbol::{PackageId, print_package_named};
 use std::alloc::{AllocError, Global};
 
 /// The role of what is neither a definition nor an import.
-const NO_ROLE: i32 = 0;
+pub(crate) const NO_ROLE: i32 = 0;
 
 /// The components of a full name.
 fn components_in(alloc: Global, name: &str) -> Result<Vec<&str>, AllocError>
@@ -91,7 +91,7 @@ fn named_package_text(
 }
 
 /// A declaration of a file, by its number.
-fn declaration_of<'a, 't>(facts: &'a FileFacts<'t>, index: usize) -> &'a Declaration<'t>
+pub(crate) fn declaration_of<'a, 't>(facts: &'a FileFacts<'t>, index: usize) -> &'a Declaration<'t>
     requires { index < length facts.now.declarations }
     ensures { slice_get facts.now.declarations index ≡ Some result.now }
 {
@@ -163,7 +163,7 @@ fn own_package(part: Entity) -> usize
 }
 
 /// The number of the text of what a part of a full name names. What the source has itself has one already.
-fn entity_number(
+pub(crate) fn entity_number(
     maker: &DocumentMaker<'_, '_, '_, '_>,
     name: &str,
     part: Entity,
@@ -181,14 +181,14 @@ fn entity_number(
         return Ok(number);
     }
     let text = entity_text(maker, name, part)?;
-    let number = texts.number_of(maker.alloc, own_package(part), text.as_str())?;
+    let number = texts.number_of(own_package(part), text)?;
     Ok(number)
 }
 
 /// Whether a part of a full name occurs: a package does, and a declaration where it is kept.
-fn is_shown(maker: &DocumentMaker<'_, '_, '_, '_>, name: &str, part: Entity) -> bool
+pub(crate) fn is_shown(maker: &DocumentMaker<'_, '_, '_, '_>, part: Entity) -> bool
     requires chosen { HasChosen maker.now }
-    requires nameable { CanName maker.now name.now part }
+    requires nameable { (name : List ℕ) × CanName maker.now name part }
     ensures { result ≡ is_shown maker.now.choices.now part }
 {
     match part {
@@ -237,7 +237,7 @@ fn add_part(
 {
     match part {
         Some(part) => {
-            if is_shown(maker, name, part) {
+            if is_shown(maker, part) {
                 add_entity(list, maker, name, span, part, texts)
             } else {
                 Ok(())

@@ -102,6 +102,7 @@ fn settings_of(alloc: Global) -> Result<Settings, Fail> {
         dialect: Dialect::Proto3(CustomOptions::Refuse),
         comments: CommentForm::Raw,
         details: false,
+        options: false,
         faulty: Faulty::Refuse,
         duplicates: Duplicates::Refuse,
     })

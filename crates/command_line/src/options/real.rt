@@ -25,7 +25,8 @@ pub(crate) fn arg<'a>(alloc: Global) -> Arg<'a>
     ensures { rule_of result ≡ real_rule }
 {
     let help =
-        "Unless given: --accept all --faulty skip --duplicates keep --well-known --doc both --comments clean --details";
+        "Unless given: --accept all --options link --faulty skip --duplicates keep --well-known --doc both \
+        --comments clean --details";
     flag(alloc, NAME, help)
 }
 

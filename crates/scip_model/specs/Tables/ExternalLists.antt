@@ -1,6 +1,6 @@
 -- The declarations of included files that uses in sources name, as the code gathers them: each by its file's number and
 -- its own.
-use Rattle.std.specs.Prelude.{◌≡◌, ◌<◌, ◌⊎◌, ◌↔◌, ⊤, ℕ, true, false, Some, List, length, Contains}
+use Rattle.std.specs.Prelude.{◌≡◌, ◌<◌, ⊤, ℕ, true, false, Some, List, length, Contains}
 use Rattle.std.specs.declared.cmp.Ordering.{Ordering}
 use Rattle.std.specs.Ordering.{nat_cmp, ordering_then}
 use Rattle.std.specs.List.{slice_get}
@@ -9,8 +9,9 @@ use Rattle.proto_decl.specs.declared.declaration.Declaration.{Declaration}
 use Rattle.proto_decl.specs.declared.uses.Use.{Use}
 use Rattle.index_hooks.specs.declared.choice.Choice.{Choice}
 use Rattle.scip_records.specs.declared.records.SymbolInformation.{SymbolInformation}
-use Rattle.scip_model.specs.Named.{Home}
+use Rattle.scip_model.specs.Named.{Home, HasDeclaration}
 use Rattle.proto_visibility.specs.Files.{File, HasFacts, IsSource, IsIncludedAt}
+use Rattle.option_link.specs.Counted.{Counts}
 use Rattle.proto_visibility.specs.Sees.{Sees}
 use Rattle.proto_link.specs.Targets.{IsTarget}
 use Rattle.proto_visibility.specs.declared.lookup.Entity.{Entity}
@@ -20,6 +21,7 @@ use Rattle.scip_model.specs.Packages.{Packages}
 use Rattle.scip_model.specs.Chosen.{Chosen, HasChoice, IsChosen, IsKeptDeclaration}
 use Rattle.scip_model.specs.Detailed.{detail_at}
 use Rattle.scip_model.specs.Entries.{declaration_entry, IsKeptEntry}
+pub use Rattle.scip_model.specs.Tables.Additions.{Adds, FromFront}
 
 abbrev pub Pair : Type 0
 Pair = ℕ × ℕ
@@ -27,18 +29,6 @@ Pair = ℕ × ℕ
 -- by file, then by place there
 abbrev pub pair_cmp : Pair → Pair → Ordering
 pair_cmp x y = ordering_then (nat_cmp x.0 y.0) (nat_cmp x.1 y.1)
-
--- the list has what it had, and besides just these
-abbrev pub Adds : (Pair → Type 0) → (old new : List Pair) → Type 0
-Adds IsNew old new = (x : Pair) → Contains new x ↔ (Contains old x ⊎ IsNew x)
-
--- one of the first so many elements is of this kind
-pub record FromFront {X : Type 0} (IsOf : X → Pair → Type 0) (xs : List X) (count : ℕ) (x : Pair) : Type 0 where
-  pub index : ℕ
-  pub element : X
-  pub within : index < count
-  pub stands : slice_get xs index ≡ Some element
-  pub is : IsOf element x
 
 module _ (files : List File) (chosen : Chosen) where
   -- a part is a declaration that can be looked up
@@ -71,6 +61,14 @@ module _ (files : List File) (chosen : Chosen) where
     pub within : source < count
     pub of_source : IsOfSource source x
 
+  -- a declaration that is kept, of a file that counts
+  pub record IsKeptThere (x : Pair) : Type 0 where
+    pub counts : Counts files x.0
+    pub facts : Facts
+    pub declaration : Declaration
+    pub has : HasDeclaration files x.0 x.1 facts declaration
+    pub kept : IsKeptDeclaration chosen x.0 x.1
+
 -- the entry of a declaration of these facts, with the choice for it
 pub record IsEntryAt (chosen : Chosen) (home : Home) (facts : Facts) (file index : ℕ)
     (entry : SymbolInformation) : Type 0 where
@@ -83,6 +81,11 @@ pub record IsEntryAt (chosen : Chosen) (home : Home) (facts : Facts) (file index
 -- the entry of a declaration that is kept
 abbrev pub IsEntryOf : List File → Chosen → Packages → Pair → SymbolInformation → Type 0
 IsEntryOf files chosen ids x = IsKeptEntry files chosen ids x.0 x.1
+
+-- that of one of these
+abbrev pub HasEntryAmong : List File → Chosen → Packages → List Pair → SymbolInformation → Type 0
+HasEntryAmong files chosen ids pairs entry =
+    (x : Pair) × Contains pairs x × IsEntryOf files chosen ids x entry
 
 -- none of the first so many is
 abbrev pub NoneIncluded : List File → (count : ℕ) → Type 0

@@ -13,6 +13,19 @@ pub record IsMerged {X : Type 0} (cmp : X → X → Ordering) (first second both
   pub all : (x : X) → Contains both x ↔ (Contains first x ⊎ Contains second x)
   pub ascends : IsStrictlySortedBy cmp first → IsStrictlySortedBy cmp second → IsStrictlySortedBy cmp both
 
+-- The same where the first list goes before: of the second it has what no item of the first is tied with.
+abbrev pub NoneTied : {X : Type 0} → (X → X → Ordering) → List X → X → Type 0
+NoneTied cmp first x = (other : _) → Contains first other → cmp other x ≡ Equal → ⊥
+
+pub record IsMergedApart {X : Type 0} (cmp : X → X → Ordering) (first second both : List X) : Type 0 where
+  pub all : (x : X) → Contains both x ↔ (Contains first x ⊎ (Contains second x × NoneTied cmp first x))
+  pub ascends : IsStrictlySortedBy cmp both
+
+-- Of a list in which only equal items are tied, the ascending list of its items.
+pub record IsMadeSingle {X : Type 0} (cmp : X → X → Ordering) (list once : List X) : Type 0 where
+  pub all : AreUntied cmp list list → (x : X) → Contains once x ↔ Contains list x
+  pub ascends : IsStrictlySortedBy cmp once
+
 abbrev pub first_of : {X : Type 0} → List X → Option X
 first_of [] = None
 first_of (x ∷ xs) = Some x

@@ -1,7 +1,8 @@
 -- Documents of which each symbol's text is kept once: occurrences and entries have its number.
 use Rattle.std.specs.Prelude.{◌≡◌, ℕ, ◌+◌, ◌-◌, List, [], ◌∷◌, ◌++◌, Option, Some, None, length, map}
 use Rattle.std.specs.Prelude.{slice_index_or, if◌then◌else◌, nat_lt, nat_le, ◌&&◌, ◌==◌, ℤ}
-use Rattle.std.specs.Ordering.{int_eq}
+use Rattle.std.specs.declared.cmp.Ordering.{Ordering}
+use Rattle.std.specs.Ordering.{int_eq, on}
 use Rattle.std.specs.List.{slice_get, range_with_len}
 use Rattle.std.specs.Option.{option_map}
 use Rattle.index_hooks.specs.declared.choice.Choice.{Choice}
@@ -19,8 +20,10 @@ use Rattle.scip_symbol.specs.Entities as symbols
 use Rattle.scip_symbol.specs.Package.{Package}
 use Rattle.scip_model.specs.Detailed.{detail_at, details_shown, file_kind, kind_if_asked, package_kind, text_around}
 use Rattle.scip_model.specs.Named.{Home, home_of_file, text_of, package_at}
+use Rattle.scip_model.specs.OccurrenceOrder.{occurrence_cmp}
 use Rattle.scip_model.specs.Packages.{Packages}
 use Rattle.scip_model.specs.Occurs.{definition_role, range_over}
+use Rattle.scip_model.specs.Tables.Additions.{Adds}
 use Rattle.scip_model.specs.Tables.OwnTexts.{declaration_texts, entry_with}
 use Rattle.scip_model.specs.declared.document_plan.PlannedOccurrence.{PlannedOccurrence}
 
@@ -66,6 +69,10 @@ occurrence_of around texts planned = record {
   enclosing_range = range_around around planned.symbol_roles planned.symbol;
 }
 
+-- the order of what is planned, which ranges around don't count for
+abbrev pub planned_cmp : List (List ℕ) → PlannedOccurrence → PlannedOccurrence → Ordering
+planned_cmp texts = on (occurrence_of (record { first = 0; ranges = [] }) texts) occurrence_cmp
+
 -- what is planned is these occurrences, whatever the texts grow to
 abbrev pub ArePlanned : Around → (texts : List (List ℕ)) → List PlannedOccurrence → List Occurrence → Type 0
 ArePlanned around texts planned occurrences =
@@ -77,6 +84,13 @@ abbrev pub AreAdded : Around → (texts : List (List ℕ)) → (old new : List P
 AreAdded around texts old new occurrences =
     (later : List (List ℕ)) → Grown texts later
     → map (occurrence_of around later) new ≡ map (occurrence_of around later) old ++ occurrences
+
+-- those of a kind are added to what was planned
+abbrev pub AddsPlanned : Around → (texts : List (List ℕ)) → (Occurrence → Type 0)
+    → (old new : List PlannedOccurrence) → Type 0
+AddsPlanned around texts IsNew old new =
+    (later : List (List ℕ)) → Grown texts later
+    → Adds IsNew (map (occurrence_of around later) old) (map (occurrence_of around later) new)
 
 -- of the first component, the first two, and so on
 abbrev pub package_texts_up_to : (run : Package) → Facts → (count : ℕ) → List (List ℕ)

@@ -1,7 +1,7 @@
 use Rattle.std.proofs.Common.{◌∙◌, ap, map, subst, ℕ, false, List}
 use Rattle.std.specs.String.{string_bytes}
 use Rattle.source_files.specs.Places.{IsAsked}
-use Rattle.programs.specs.Placing.{roots_in}
+use Rattle.programs.specs.Folders.{roots_in}
 use Rattle.programs.proofs.ReportingLemmas.{any_if_some}
 use Rattle.programs.proofs.reporting.see_report.Goals as goal
 

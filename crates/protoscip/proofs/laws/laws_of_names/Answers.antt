@@ -12,4 +12,5 @@ returns c =
       unclashed = c.files_are_without_clash.ensures;
       symbols = c.symbols_name_one_entity_in_packages.ensures;
       targets = c.each_use_has_a_target.ensures;
+      in_options = c.each_option_name_has_parts.ensures;
     }

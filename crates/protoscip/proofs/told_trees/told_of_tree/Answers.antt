@@ -10,7 +10,7 @@ pub returns-in_err-built-clause-stops : goal.returns-in_err-built-clause-stops
 returns-in_err-built-clause-stops g c =
     let p = err_from_is_err_and c.from_residual-in_err-built.result c.from_residual-in_err-built.ensures.1 in
     rw (p.1, p.2) (stops_so (g.C.Chooses.allows c.args.chooser.now) c.in_ok-settings.settings c.args.dialect
-    c.args.tree.now c.args.run.now.workers c.in_err-built.field-0.0 c.in_ok-settings.ensures
+    c.args.options c.args.tree.now c.args.run.now.workers c.in_err-built.field-0.0 c.in_ok-settings.ensures
     c.in_err-built.ensures.refused)
 
 -- where it is

@@ -9,13 +9,15 @@ pub build_whole-requires-clause-tree : goal.build_whole-requires-clause-tree
 build_whole-requires-clause-tree g c = λ _ _.
     of_tree c.args.settings.now.faulty c.args.settings.now.dialect (form_of c.args.settings.now)
     (g.C.Chooses.allows c.args.chooser.now)
-    c.args.tree.now c.in_ok-all.all.items c.in_ok-all.ensures c.file_count.ensures.tree
+    c.args.tree.now c.in_ok-all.all.items c.in_ok-all.ensures
+    c.fields_stand_in_order.ensures c.file_count.ensures.tree
 
 pub build_kept-requires-clause-tree : goal.build_kept-requires-clause-tree
 build_kept-requires-clause-tree g c = λ _ _.
     of_tree c.args.settings.now.faulty c.args.settings.now.dialect (form_of c.args.settings.now)
     (g.C.Chooses.allows c.args.chooser.now)
-    c.args.tree.now c.in_ok-all.all.items c.in_ok-all.ensures c.file_count.ensures.tree
+    c.args.tree.now c.in_ok-all.all.items c.in_ok-all.ensures
+    c.fields_stand_in_order.ensures c.file_count.ensures.tree
 
 pub build_kept-requires-clause-present : goal.build_kept-requires-clause-present
 build_kept-requires-clause-present g c = λ _ _.

@@ -22,7 +22,13 @@ make_kept-requires-clause-clear g c = λ _ _.
 pub returns : goal.returns
 returns g c =
     let made = rw c.as_slice.ensures.value at c.in_ok-of_kept.ensures in
-    let order = rw (c.as_slice-2.ensures.value, c.as_slice-3.ensures.value, c.as_slice-4.ensures.value, c.as_slice-5.ensures.value) at
+    let order = rw (
+      c.as_slice-2.ensures.value,
+      c.as_slice-3.ensures.value,
+      c.as_slice-4.ensures.value,
+      c.as_slice-5.ensures.value,
+      c.as_slice-6.ensures,
+    ) at
     c.in_ok-told.ensures in
     rw c.from_vec.ensures
     (kept_built (kept_at c.args.settings.now.at g.F.DocumentForm.is_kept) c.args.all.items

@@ -1,5 +1,6 @@
 use Rattle.std.proofs.Common.{subst}
 use Rattle.std.proofs.lemmas.Result.{err_from_is_err_and}
+use Rattle.scip_build.specs.Documents.{asks_in}
 use Rattle.scip_build.specs.Making.{MayRefuseMaking}
 use Rattle.scip_build.specs.Forms.{IsLinkedAndMade}
 use Rattle.scip_build.specs.Placing.{kept_at}
@@ -13,7 +14,8 @@ pub returns-in_err-made : goal.returns-in_err-made
 returns-in_err-made g c =
     let p = err_from_is_err_and c.from_residual.result c.from_residual.ensures.1 in
     let fault = c.in_err-made.field-0.0 in
-    rw (p.1, p.2) (subst (λ rs. MayRefuseMaking c.args.settings.now.duplicates rs c.args.run.now.workers fault)
+    rw (p.1, p.2) (subst (λ rs. MayRefuseMaking c.args.settings.now.duplicates
+    (asks_in c.args.settings.now) rs c.args.run.now.workers fault)
     c.as_slice.ensures.value c.in_err-made.ensures)
 
 pub returns : goal.returns

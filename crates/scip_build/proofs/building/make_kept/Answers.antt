@@ -3,6 +3,7 @@ use Rattle.std.specs.Prelude.{All}
 use Rattle.std.proofs.lemmas.Result.{err_from_is_err_and}
 use Rattle.proto_visibility.specs.Absences.{AreMissing}
 use Rattle.scip_build.specs.Linking.{linked_files}
+use Rattle.scip_build.specs.Documents.{asked_in}
 use Rattle.proto_visibility.specs.Files.{File}
 use Rattle.proto_visibility.specs.declared.files.FilePlace.{FilePlace}
 use Rattle.scip_build.specs.Making.MayRefuseSkipping.{skipping_lacks_memory}
@@ -15,7 +16,8 @@ pub returns-in_err-made : goal.returns-in_err-made
 returns-in_err-made g c =
     let p = err_from_is_err_and c.from_residual-in_err-made.result c.from_residual-in_err-made.ensures.1 in
     rw (p.1, p.2)
-    (of_skipping c.args.settings.now.faulty (linked_files c.args.parsed.now) c.args.run.now.workers
+    (of_skipping c.args.settings.now.faulty (asked_in c.args.settings.now c.args.parsed.now) c.args.parsed.now
+    (linked_files c.args.parsed.now) c.args.run.now.workers
     c.in_err-made.field-0.0 c.requires.skip c.in_err-made.ensures)
 
 pub returns-in_err-faults : goal.returns-in_err-faults

@@ -1,4 +1,5 @@
 use Rattle.std.proofs.lemmas.Result.{err_from_is_err_and}
+use Rattle.scip_build.specs.Documents.{asks_in}
 use Rattle.scip_build.specs.Placing.{kept_at}
 use Rattle.scip_build.proofs.BuildsRefusalLemmas.{of_linking, linked_of}
 use Rattle.scip_build.proofs.building.make_whole.Goals as goal
@@ -7,7 +8,8 @@ pub returns-in_err-linker : goal.returns-in_err-linker
 returns-in_err-linker g c =
     let p = err_from_is_err_and c.from_residual-in_err-linker.result c.from_residual-in_err-linker.ensures.1 in
     rw (p.1, p.2)
-    (of_linking c.args.settings.now.duplicates c.args.parsed.now c.args.run.now.workers c.in_err-linker.field-0.0
+    (of_linking c.args.settings.now.duplicates (asks_in c.args.settings.now) c.args.parsed.now
+    c.args.run.now.workers c.in_err-linker.field-0.0
     c.in_err-linker.ensures)
 
 pub make_linked-requires-clause-clear : goal.make_linked-requires-clause-clear

@@ -2,6 +2,7 @@ use Rattle.scip_build.proofs.BuildLawLemmas.{built_has_no_fault}
 use Rattle.scip_build.proofs.laws.built_has_no_fault.Goals as goal
 
 pub returns : goal.returns
-returns g c = built_has_no_fault (g.C.Chooses.allows c.args.chooser.now)
+returns g c = built_has_no_fault c.faults_exclude_facts.ensures.facts c.one_beside_a_file.ensures
+    (g.C.Chooses.allows c.args.chooser.now)
     (g.D.Chooses.allows c.args.other.now) c.one_linking.ensures c.parsed_files_exclude_faults.ensures
     c.parsed_files_exclude_faults-2.ensures

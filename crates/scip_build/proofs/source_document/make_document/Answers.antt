@@ -9,6 +9,6 @@ returns-in-Some c =
     let is = c.in-Some.ensures in
     let First : List Span → Type 0 = λ spans. slice_get spans 0 ≡ Some c.in-Some.span in (
       is.0,
-      first_unresolved c.args.sources.now.package.now.files c.args.number c.in-Ok.made.unresolved c.in-Some.span
+      first_unresolved c.args.sources.now.package.now.files c.args.number c.in-Ok.made.planned.unresolved c.in-Some.span
           c.in-Ok.ensures.unresolved_uses (subst First c.unresolved.ensures is.1),
     )

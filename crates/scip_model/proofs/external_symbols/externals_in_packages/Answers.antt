@@ -1,14 +1,10 @@
-use Rattle.std.proofs.Common.{◌≡◌, List, [], length, get_or, sym, subst, arith, rules}
-use Rattle.std.specs.Ordering.{is_lt}
-use Rattle.std.specs.List.{All, AllZip}
-use Rattle.std.proofs.lemmas.List.Elements.{Contains-get_or}
-use Rattle.std.proofs.lemmas.List.Sorted.{answers_always}
+use Rattle.std.proofs.Common.{◌≡◌, List, [], length, subst, sym, arith}
+use Rattle.std.proofs.lemmas.Result.{IfOk-weaker}
 use Rattle.proto_visibility.specs.Files.{File}
 use Rattle.scip_model.specs.Chosen.{HaveChoices}
-use Rattle.scip_model.specs.Tables.ExternalLists.{Pair, Adds, IsEntryOf, IsExternal, NoneIncluded}
-use Rattle.scip_model.specs.Indexes.{info_cmp}
-use Rattle.scip_model.proofs.EntrySourceLemmas.{infos_rank}
-use Rattle.scip_model.proofs.ExternalSymbolEntryLemmas.{all-added, external-list, none-external}
+use Rattle.scip_model.specs.Indexes.{AreExternals, IsAscendingListOf, info_cmp}
+use Rattle.scip_model.specs.Tables.ExternalLists.{Adds, HasEntryAmong, IsExternal, NoneIncluded}
+use Rattle.scip_model.proofs.ExternalSymbolEntryLemmas.{externals-there, none-external, of-externals}
 use Rattle.scip_model.proofs.external_symbols.externals_in_packages.Goals as goal
 
 pub named_externals-requires : goal.named_externals-requires
@@ -19,17 +15,11 @@ named_externals-requires c =
           c.requires.choices;
     }
 
-pub external_entries-requires-clause-external : goal.external_entries-requires-clause-external
-external_entries-requires-clause-external c =
-    let files = c.args.named.now.files in
-    let chosen = c.args.choices.now in
-    let adds = subst (λ (list : List File). Adds (IsExternal list chosen (length list)) [] c.in_ok-pairs.pairs.items)
-    c.linker-linker.ensures.files c.in_ok-pairs.ensures in
-    let exact = all-added (IsExternal files chosen (length files)) c.in_ok-pairs.pairs.items
-    c.in_ok-once.once.items adds c.in_ok-once.ensures.same in
-    subst (λ (pairs : List Pair). All (IsExternal files chosen (length files)) pairs)
-    (sym c.as_slice.ensures.value)
-    (λ k d within. (exact (get_or c.in_ok-once.once.items k d)).0 (Contains-get_or c.in_ok-once.once.items k d within))
+pub entries_by_symbol-requires-clause-there : goal.entries_by_symbol-requires-clause-there
+entries_by_symbol-requires-clause-there c =
+    externals-there c.args.named.now.files c.args.choices.now c.in_ok-pairs.pairs.items
+    (subst (λ (list : List File). Adds (IsExternal list c.args.choices.now (length list)) [] c.in_ok-pairs.pairs.items)
+    c.linker-linker.ensures.files c.in_ok-pairs.ensures)
 
 pub returns-then-first-count : goal.returns-then-first-count
 returns-then-first-count c =
@@ -45,17 +35,10 @@ returns c =
     let files = c.args.named.now.files in
     let chosen = c.args.choices.now in
     let ids = c.args.named.now.ids in
-    let once = c.in_ok-once.once.items in
-    let adds = subst (λ (list : List File). Adds (IsExternal list chosen (length list)) [] c.in_ok-pairs.pairs.items)
-    c.linker-linker.ensures.files c.in_ok-pairs.ensures in
-    let exact = all-added (IsExternal files chosen (length files)) c.in_ok-pairs.pairs.items once adds
-    c.in_ok-once.ensures.same in
-    rw c.from_vec.ensures
-    (external-list files ids c.symbols_stand_apart.ensures.known
-    c.symbols_stand_apart.ensures.packages chosen once exact c.in_ok-once.ensures.rising
-    c.in_ok-entries.entries.items c.sort_by.new.self.items
-    (subst (λ (pairs : List Pair). AllZip (IsEntryOf files chosen ids) pairs c.in_ok-entries.entries.items)
-    c.as_slice.ensures.value c.in_ok-entries.ensures)
-    c.in_ok-sort_by.ensures.permutation
-    (c.in_ok-sort_by.ensures.sorted (λ x y. is_lt (info_cmp x y)) infos_rank
-    (answers_always _ (λ a r. is_lt r ≡ is_lt (info_cmp a.0.now a.1.0.now)) _ (λ f a r g called. search rules))))
+    let pairs = c.in_ok-pairs.pairs.items in
+    IfOk-weaker c.entries_by_symbol.result (IsAscendingListOf info_cmp (HasEntryAmong files chosen ids pairs))
+    (AreExternals files chosen ids)
+    (λ entries is. of-externals files ids chosen pairs entries
+    (subst (λ (list : List File). Adds (IsExternal list chosen (length list)) [] pairs) c.linker-linker.ensures.files
+    c.in_ok-pairs.ensures) is)
+    c.entries_by_symbol.ensures

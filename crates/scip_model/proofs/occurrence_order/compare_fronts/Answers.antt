@@ -11,6 +11,6 @@ returns-in-Some-Some c = λ (around : Around).
     let b = c.in-Some-Some.b.now in
     let first = c.in-Some-Some.ensures.item in
     let second = c.in-Some-Some.ensures'.item in
-    c.compare_occurrences.ensures around
+    c.compare_occurrences.ensures.each around
     ∙ both_fronts (on (occurrence_of around c.args.texts.now) occurrence_cmp) c.args.first.now.items
     c.args.second.now.items a b first.3.0 first.1 second.3.0 second.1

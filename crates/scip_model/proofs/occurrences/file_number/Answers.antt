@@ -9,5 +9,5 @@ pub returns-clause-number : goal.returns-clause-number
 returns-clause-number c =
     let path = c.args.path.now in
     subst (λ (text : List ℕ). IsNumberOf c.number_of.new.self text c.in_ok-number.number)
-    (c.as_str.ensures ∙ (c.in_ok-text.ensures ∙ ap (λ (id : Package). text_of id (OfFile path)) c.of_path.ensures))
+    (c.in_ok-text.ensures ∙ ap (λ (id : Package). text_of id (OfFile path)) c.of_path.ensures)
     c.in_ok-number.ensures.number

@@ -1,4 +1,4 @@
-use Rattle.std.proofs.Common.{◌≡◌, ◌∙◌, ap, sym, subst, refl, List, ℕ, [], ◌∷◌, ◌++◌, map, arith}
+use Rattle.std.proofs.Common.{◌≡◌, ◌∙◌, ap, sym, subst, refl, None, List, ℕ, [], ◌∷◌, ◌++◌, map, arith}
 use Rattle.std.specs.List.{All, AllZip}
 use Rattle.proto_lex.specs.Lexed.{IsPart}
 use Rattle.proto_decl.specs.declared.imports.Imported.{Imported}
@@ -137,7 +137,7 @@ returns-clause-planned c =
     ∙ ap (λ (xs : List Imported). each_from (at_import ids encoding text files) 0 xs) c.imports.ensures in
     let untied : (x y : Occurrence) → Occurs files chosen ids encoding source text x
     → Occurs files chosen ids encoding source text y → occurrence_cmp x y ≡ Equal → x ≡ y =
-    λ x y first second e. c.facts_occur_in_order.ensures.untied files chosen ids encoding source text
+    λ x y first second e. c.facts_occur_in_order.ensures.untied None files chosen ids encoding source text
     (λ other known. subst (AreOfText text) (same_facts files source facts other c.requires.known known) c.requires.text)
     x y first second (tied x y e).0 (tied x y e).1 in
     let uses = made.2 around texts (grown_same texts)
@@ -153,7 +153,7 @@ returns-clause-planned c =
     (subst (NoClash Keep) linked c.facts_occur_in_order.ensures.clear.clear) source c.requires.source) untied
     (map f c.in_ok-with_imports.with_imports.items) (map f c.in_ok-with_packages.with_packages.items)
     (map f c.in_ok-with_names.with_names.items) (map f c.in_ok-list.list.items)
-    (merged_of own imports (c.in_ok-with_imports.ensures around))
-    (merged_of refl packages (c.in_ok-with_packages.ensures around))
-    (merged_of refl names (c.in_ok-with_names.ensures around))
-    (merged_of refl uses (c.in_ok-list.ensures around))
+    (merged_of own imports (c.in_ok-with_imports.ensures.untied around))
+    (merged_of refl packages (c.in_ok-with_packages.ensures.untied around))
+    (merged_of refl names (c.in_ok-with_names.ensures.untied around))
+    (merged_of refl uses (c.in_ok-list.ensures.untied around))

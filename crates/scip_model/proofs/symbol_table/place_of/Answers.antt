@@ -1,17 +1,12 @@
-use Rattle.std.proofs.Common.{◌∙◌, sym, ap, subst, map, ◌<◌, length, ℕ, Option, IfSome, Some}
 use Rattle.std.specs.String.{string_bytes}
-use Rattle.scip_model.proofs.PlanLemmas.{grown_same, key_found}
+use Rattle.scip_model.proofs.PlanLemmas.{keys_grown, key_stored}
 use Rattle.scip_model.proofs.symbol_table.place_of.Goals as goal
 
-pub returns-in-Some-clause-grown : goal.returns-in-Some-clause-grown
-returns-in-Some-clause-grown c = grown_same (map string_bytes c.args.others.now.keys)
-
-pub returns-in-Some-clause-stored : goal.returns-in-Some-clause-stored
-returns-in-Some-clause-stored c =
-    let keys = c.args.others.now.keys in
-    key_found string_bytes keys c.in-Some.index c.args.text.now
-    (subst (λ (o : Option ℕ). IfSome o (λ index. index < length keys)) c.in-Some.is c.get_index_of.ensures.within)
-    (sym c.get_index_of.ensures.index ∙ c.in-Some.is)
+pub returns-clause-grown : goal.returns-clause-grown
+returns-clause-grown c =
+    keys_grown string_bytes _ c.args.others.now.keys c.insert_full.new.self.keys c.args.text c.in_ok-index.ensures.keys
 
 pub returns-clause-stored : goal.returns-clause-stored
-returns-clause-stored c = c.in_ok-index.ensures.stored ∙ ap Some c.in_ok-copy.ensures.ok
+returns-clause-stored c =
+    let stored = c.in_ok-index.ensures.stored in
+    key_stored string_bytes c.insert_full.new.self.keys _ stored.0 (string_bytes c.args.text) stored.1 stored.2

@@ -1,9 +1,9 @@
-use Rattle.std.proofs.Common.{◌≡◌, sym, subst, IfSome, List, Option, ℕ}
+use Rattle.std.proofs.Common.{◌≡◌, sym, subst, IfSome, Option, ℕ}
 use Rattle.proto_visibility.specs.declared.lookup.Entity.{Entity}
 use Rattle.proto_visibility.specs.declared.lookup.Entity.TheVariants.{Declared}
 use Rattle.scip_model.specs.Packages.{package_of_part}
 use Rattle.scip_model.specs.Tables.Listing.{IsNameable, entity_of}
-use Rattle.scip_model.specs.Tables.Plans.{IsNumberIn, IsNumberOf}
+use Rattle.scip_model.specs.Tables.Plans.{IsNumberIn}
 use Rattle.scip_model.proofs.PlanLemmas.{grown_same, own_is}
 use Rattle.scip_model.proofs.use_occurrences.entity_number.Goals as goal
 
@@ -36,6 +36,5 @@ pub returns-clause-number : goal.returns-clause-number
 returns-clause-number c = (
   c.in_ok-text.text,
   c.in_ok-text.ensures,
-  subst (λ (text : List ℕ). IsNumberOf c.number_of.new.self text c.in_ok-number-2.number) c.as_str.ensures
-      c.in_ok-number-2.ensures.number,
+  c.in_ok-number-2.ensures.number,
 )

@@ -5,6 +5,6 @@ use Rattle.scip_model.proofs.use_occurrences.is_shown.Goals as goal
 
 pub of-requires : goal.of-requires
 of-requires c =
-    let there = subst (λ (part : Entity). IsNameable c.args.maker.now.package.now.files c.args.name.now part) c.in-Declared.is
-    c.requires.nameable in
+    let there = subst (λ (part : Entity). IsNameable c.args.maker.now.package.now.files c.requires.nameable.0 part) c.in-Declared.is
+    c.requires.nameable.1 in
     c.requires.chosen c.in-Declared.file c.in-Declared.index there.0 there.1 there.2

@@ -1,7 +1,7 @@
 use Rattle.std.specs.String.{string_bytes}
 use Rattle.std.proofs.Common.{◌∙◌, ◌++◌, ap, ap₂, map}
 use Rattle.std.proofs.lemmas.List.{map-append}
-use Rattle.command_line.proofs.options.indexes_of.Goals as goal
+use Rattle.command_line.proofs.options.also.indexes_of.Goals as goal
 
 pub returns : goal.returns
 returns c =

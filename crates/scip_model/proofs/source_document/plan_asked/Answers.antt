@@ -1,25 +1,31 @@
-use Rattle.std.proofs.Common.{◌∙◌, ◌<◌, ap, sym, refl, subst, List, ℕ, length, map}
+use Rattle.std.specs.Option.{option_map}
+use Rattle.std.proofs.Common.{◌≡◌, ◌∙◌, ◌<◌, ap, sym, refl, subst, List, ℕ, length, map}
 use Rattle.scip_model.proofs.ConditionLinkedLemmas.{source-facts}
 use Rattle.scip_model.proofs.NamedLemmas.{some_facts, given_facts, facts_there}
 use Rattle.std.proofs.lemmas.Option.{slice_get_within, same_Some}
 use Rattle.scip_symbol.specs.Package.{Package}
 use Rattle.scip_model.specs.Packages.{path_if_there}
 use Rattle.scip_model.specs.Named.{Home}
-use Rattle.scip_model.specs.Makers.{source_home}
+use Rattle.scip_model.specs.Makers.{source_home, source_texts}
+use Rattle.scip_model.specs.declared.document_maker.DocumentMaker.{DocumentMaker}
+use Rattle.option_link.specs.Linked.{LinkedOptions}
+use denote.Ref.{Bor}
+use Rattle.proto_decl.specs.Facts.{Facts}
+use Rattle.scip_model.proofs.OptionOccurLemmas.{with-asked}
 use Rattle.proto_visibility.specs.Absences.{NoneBroken}
 use Rattle.scip_model.specs.Tables.Plans.{own_texts, Grown}
 use Rattle.scip_symbol.specs.Path.{IsGoodPath}
-use Rattle.scip_model.proofs.PlanLemmas.{grown_same}
+use Rattle.scip_model.proofs.PlanLemmas.{grown_same, grown_then}
 use Rattle.proto_visibility.specs.Files.{File, HasPathAt}
 use Rattle.index_hooks.specs.declared.choice.Choice.{Choice}
 use Rattle.scip_model.specs.Entries.{HasEntry}
 use Rattle.scip_model.specs.Indexes.{IsAscendingListOf, info_cmp}
 use Rattle.scip_model.specs.OccurrenceOrder.{occurrence_cmp}
-use Rattle.scip_model.specs.Occurs.{Occurs}
+use Rattle.scip_model.specs.Options.{OccursWith}
 use Rattle.scip_model.specs.Tables.EntryLists.{choices_for, package_names}
-use Rattle.scip_model.specs.Tables.Plans.{around_by, arounds_in, entry_of, occurrence_of}
+use Rattle.scip_model.specs.Tables.Plans.{around_by, around_in, arounds_in, entry_of, occurrence_of}
 use Rattle.scip_records.specs.Range.{RangeNumbers}
-use Rattle.scip_model.proofs.source_document.plan_document.Goals as goal
+use Rattle.scip_model.proofs.source_document.plan_asked.Goals as goal
 
 pub facts_of-requires : goal.facts_of-requires
 facts_of-requires c =
@@ -90,14 +96,42 @@ own_texts-requires c =
     (subst IsGoodPath (sym (ap path_if_there source.numbered))
     (c.requires.paths c.args.maker.now.source source.file source.numbered))
 
+own-grown : (maker : DocumentMaker) (facts : Facts) (home : Home) (run : Package) (own texts : List (List ℕ))
+    → texts ≡ own → own ≡ own_texts home run facts → home ≡ source_home maker → run ≡ maker.package.now.ids.run
+    → Grown (source_texts maker facts) texts
+own-grown maker facts home run own texts new is homes runs =
+    subst (λ (its : List (List ℕ)). Grown its texts)
+    (new ∙ (is ∙ (ap (λ (h : Home). own_texts h run facts) homes
+    ∙ ap (λ (r : Package). own_texts (source_home maker) r facts) runs)))
+    (grown_same texts)
+
+pub occurrences_if_asked-requires-clause-own : goal.occurrences_if_asked-requires-clause-own
+occurrences_if_asked-requires-clause-own c = (
+  c.unwrap-facts.result.now,
+  given_facts c.args.maker.now.package.now.files c.args.maker.now.source c.facts_of.result c.unwrap-facts.result
+      c.unwrap-facts.ensures
+      (facts_there c.args.maker.now.package.now.files c.linker-linker.result.now c.args.maker.now.source
+      c.facts_of.result c.linker-linker.ensures.files c.facts_of.ensures),
+  own-grown c.args.maker.now c.unwrap-facts.result.now c.home_of-home.result c.run.result.now c.in_ok-own.own
+      c.new-texts.result c.new-texts.ensures c.in_ok-own.ensures c.home_of-home.ensures c.run.ensures.value,
+)
+
 pub occurrences-requires-clause-texts : goal.occurrences-requires-clause-texts
 occurrences-requires-clause-texts c =
-    let facts = c.unwrap-facts.result.now in
-    let own = c.new-texts.ensures
-    ∙ (c.in_ok-own.ensures
-    ∙ (ap (λ (home : Home). own_texts home c.run.result.now facts) c.home_of-home.ensures
-    ∙ ap (λ (run : Package). own_texts (source_home c.args.maker.now) run facts) c.run.ensures.value)) in
-    subst (λ (texts : List (List ℕ)). Grown texts c.new-texts.result) own (grown_same c.new-texts.result)
+    grown_then (source_texts c.args.maker.now c.unwrap-facts.result.now) c.new-texts.result
+    c.occurrences_if_asked.new.texts
+    (own-grown c.args.maker.now c.unwrap-facts.result.now c.home_of-home.result c.run.result.now c.in_ok-own.own
+    c.new-texts.result c.new-texts.ensures c.in_ok-own.ensures c.home_of-home.ensures c.run.ensures.value)
+    c.in_ok-of_options.ensures.grown
+
+pub entry_numbers-requires-clause-texts : goal.entry_numbers-requires-clause-texts
+entry_numbers-requires-clause-texts c =
+    let own = source_texts c.args.maker.now c.unwrap-facts.result.now in
+    grown_then own c.occurrences_if_asked.new.texts c.occurrences.new.texts
+    (grown_then own c.new-texts.result c.occurrences_if_asked.new.texts
+    (own-grown c.args.maker.now c.unwrap-facts.result.now c.home_of-home.result c.run.result.now c.in_ok-own.own
+    c.new-texts.result c.new-texts.ensures c.in_ok-own.ensures c.home_of-home.ensures c.run.ensures.value)
+    c.in_ok-of_options.ensures.grown) c.in_ok-besides.ensures.grown
 
 pub declaration_ranges-requires : goal.declaration_ranges-requires
 declaration_ranges-requires c =
@@ -109,7 +143,7 @@ declaration_ranges-requires c =
     c.facts_of.ensures))
 
 pub returns-clause-unresolved_uses : goal.returns-clause-unresolved_uses
-returns-clause-unresolved_uses c = rw c.from_vec.ensures c.in_ok-occurrences.ensures.unresolved_uses
+returns-clause-unresolved_uses c = rw c.from_vec.ensures c.in_ok-besides.ensures.unresolved_uses
 
 pub returns-clause-document : goal.returns-clause-document
 returns-clause-document c =
@@ -134,6 +168,9 @@ returns-clause-document c =
     (c.in_ok-arounds.ensures ∙ ap (λ (home : Home). arounds_in home facts) c.home_of-home.ensures)) in
     let planned = λ (ranges : List RangeNumbers).
     map (occurrence_of (around_by facts ranges) texts) c.in_ok-occurrences.occurrences.items in
+    let around = around_in maker.encoding maker.text.now facts in
+    let f = occurrence_of around texts in
+    let asked = option_map (λ (linked : Bor LinkedOptions). linked.now.known) c.args.options in
     record {
       file = c.requires.source.file;
       numbered = c.requires.source.numbered;
@@ -141,8 +178,13 @@ returns-clause-document c =
       present = c.requires.source.present;
       relative_path = sym path.2 ∙ ap (λ (f : File). f.path) same_file;
       occurrences = subst (IsAscendingListOf occurrence_cmp
-          (Occurs files maker.choices.now maker.package.now.ids maker.encoding source maker.text.now))
-          (ap planned (sym c.in_ok-ranges.ensures)) c.in_ok-occurrences.ensures.planned;
+          (OccursWith asked files maker.choices.now maker.package.now.ids maker.encoding source maker.text.now))
+          (ap planned (sym c.in_ok-ranges.ensures))
+          (with-asked files maker.choices.now maker.package.now.ids maker.encoding source maker.text.now asked
+          (map f c.in_ok-besides.besides.items) (map f c.in_ok-of_options.of_options.items)
+          (map f c.in_ok-occurrences.occurrences.items) c.in_ok-besides.ensures.planned
+          (c.in_ok-of_options.ensures.planned around texts c.in_ok-besides.ensures.grown)
+          (c.in_ok-occurrences.ensures around));
       symbols = subst (IsAscendingListOf info_cmp (HasEntry files maker.choices.now maker.package.now.ids source))
           (sym symbols) c.in_ok-entries.ensures;
       language = refl;

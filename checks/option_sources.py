@@ -1,0 +1,339 @@
+"""The declarations and options of good sources, as the language specifications and the Text Format's have them: what
+the slow reference for `index --options link` reads (option_names.py).
+
+Needs python3 alone.
+"""
+
+import re
+
+TOKEN = re.compile(r"(?P<gap>\s+|//[^\n]*|/\*.*?\*/)|(?P<word>[A-Za-z_]\w*)|(?P<number>\.?\d(?:[eE][+-]|[\w.])*)"
+                   r"|(?P<text>\"(?:\\.|[^\"\\\n])*\"|'(?:\\.|[^'\\\n])*')|(?P<sign>.)", re.S)
+SCALARS = frozenset("double float int32 int64 uint32 uint64 sint32 sint64 fixed32 fixed64 sfixed32 sfixed64 bool "
+                    "string bytes".split())
+MAX_DEPTH = 64
+# What a declaration's symbol has behind its name.
+ENDS = {"message": "#", "enum": "#", "service": "#", "field": ".", "value": ".", "oneof": ":", "method": "()."}
+
+
+class Malformed(Exception):
+    """What is read is no source, or no message of the text format."""
+
+
+def joined(scope, name):
+    return f"{scope}.{name}" if scope else name
+
+
+class Name:
+    """A name in an option: its role (`field`, `extension`, `packed` or `value`), the number of the name that it belongs
+    to, whether a dot leads, and its words with their offsets."""
+
+    def __init__(self, role, owner, has_dot, words, start):
+        self.role, self.owner, self.has_dot, self.start = role, owner, has_dot, start
+        self.words, self.places = [word for word, _ in words], [at for _, at in words]
+
+
+class Option:
+    """An option: of which element it is, the scope from which its name is looked up, its names, how many of them are
+    its name's parts, and where it stands."""
+
+    def __init__(self, element, scope, field):
+        self.element, self.scope, self.field = element, scope, field
+        self.names, self.parts, self.span = [], 0, (0, 0)
+
+
+class Declaration:
+    """What is declared: its kind, its full name, its symbol behind the scheme, and of a field its type, what it
+    extends, whether it is a map, and the message of a group."""
+
+    def __init__(self, source, kind, scope, front, name):
+        self.source, self.kind, self.full_name = source, kind, joined(scope, name)
+        self.symbol = front + name + ENDS[kind]
+        self.outer = self.type = self.extended = self.group = None
+        self.is_map = False
+
+
+class TypeUse:
+    """A name of a type, and the scope in which it stands."""
+
+    def __init__(self, scope, has_dot, words):
+        self.scope, self.has_dot, self.words = scope, has_dot, words
+
+
+class Reader:
+    """Tokens, taken one after the other."""
+
+    def __init__(self, text):
+        found = [(match.lastgroup, match[0], match.start()) for match in TOKEN.finditer(text)]
+        self.tokens = [token for token in found if token[0] != "gap"]
+        self.text, self.at, self.end = text, 0, len(text)
+
+    def peek(self, further=0):
+        at = self.at + further
+        return self.tokens[at] if at < len(self.tokens) else ("end", "", self.end)
+
+    def sees(self, *texts):
+        """Whether the next tokens are these."""
+        return all(self.peek(at)[1] == text and self.peek(at)[0] != "text" for at, text in enumerate(texts))
+
+    def take(self, text=None, kind=None):
+        token = self.peek()
+        if token[0] == "end" or text not in (None, token[1]) or kind not in (None, token[0]):
+            raise Malformed(token)
+        self.at += 1
+        return token
+
+    def passes(self, text):
+        """Takes the next token if it is this."""
+        is_next = self.sees(text)
+        self.at += is_next
+        return is_next
+
+    def dotted(self):
+        words = [self.take(kind="word")[1:]]
+        while self.passes("."):
+            words.append(self.take(kind="word")[1:])
+        return words
+
+    def is_kind(self, *kinds):
+        return self.peek()[0] in kinds
+
+    def pass_braces(self):
+        """Takes all up to the `}` that closes what is open."""
+        depth = 1
+        while depth:
+            sign = self.take()
+            depth += (sign[:2] == ("sign", "{")) - (sign[:2] == ("sign", "}"))
+
+    # ---- options
+
+    def option(self, element, scope, field=None):
+        option = Option(element, scope, field)
+        start = self.peek()[2]
+        self.part(option.names, None)
+        while self.passes("."):
+            self.part(option.names, len(option.names) - 1)
+        option.parts = len(option.names)
+        self.take("=")
+        self.value(option.names)
+        last = self.tokens[self.at - 1]
+        option.span = (start, last[2] + len(last[1]))
+        return option
+
+    def part(self, names, owner):
+        if not self.passes("("):
+            names.append(Name("field", owner, False, [self.take(kind="word")[1:]], self.tokens[self.at - 1][2]))
+            return
+        start = self.peek()[2]
+        names.append(Name("extension", owner, self.passes("."), self.dotted(), start))
+        self.take(")")
+
+    def value(self, names):
+        owner = len(names) - 1
+        if self.is_kind("word"):
+            start = self.peek()[2]
+            names.append(Name("value", owner, False, self.dotted(), start))
+        elif self.is_kind("text"):
+            self.texts()
+        elif self.passes("{"):
+            begun, known = self.at, len(names)
+            try:
+                self.message(names, owner, "}", MAX_DEPTH)
+            except Malformed:
+                # No message of the text format: read past.
+                self.at, names[known:] = begun, []
+                self.pass_braces()
+        else:
+            self.passes("-") or self.passes("+")
+            self.take()
+
+    def texts(self):
+        self.take(kind="text")
+        while self.is_kind("text"):
+            self.take()
+
+    def message(self, names, owner, closing, levels):
+        if levels == 0:
+            raise Malformed("too deep")
+        while not self.passes(closing):
+            number, start = len(names), self.peek()[2]
+            if self.passes("["):
+                words, role = self.dotted(), "extension"
+                if self.passes("/"):
+                    words, role = self.dotted(), "packed"
+                self.take("]")
+                names.append(Name(role, owner, False, words, words[0][1]))
+            else:
+                names.append(Name("field", owner, False, [self.take(kind="word")[1:]], start))
+            self.field_value(names, number, levels)
+            self.passes(",") or self.passes(";")
+
+    def field_value(self, names, owner, levels):
+        has_colon = self.passes(":")
+        at = 1 if self.sees("[") else 0
+        is_message = not has_colon or self.peek(at)[:2] in (("sign", "{"), ("sign", "<"))
+        if not at:
+            self.item(names, owner, is_message, levels)
+            return
+        self.take("[")
+        if not self.sees("]"):
+            self.item(names, owner, is_message, levels)
+            while self.passes(","):
+                self.item(names, owner, is_message, levels)
+        self.take("]")
+
+    def item(self, names, owner, is_message, levels):
+        if is_message:
+            closing = ">" if self.passes("<") else "}"
+            if closing == "}":
+                self.take("{")
+            self.message(names, owner, closing, levels - 1)
+        elif self.is_kind("word"):
+            start = self.peek()[2]
+            names.append(Name("value", owner, False, [self.take()[1:]], start))
+        elif self.is_kind("text"):
+            self.texts()
+        elif self.passes("-"):
+            if not self.is_kind("word", "number"):
+                raise Malformed(self.peek())
+            self.take()
+        else:
+            self.take(kind="number")
+
+
+class Source(Reader):
+    """A source: its package, imports, declarations and options."""
+
+    def __init__(self, path, text):
+        super().__init__(text)
+        self.path, self.imports, self.declarations, self.options, self.package = path, [], [], [], ""
+        found = re.search(r"(?:^|[;}])\s*package\s+([\w.\s]+);", re.sub(r"//[^\n]*|/\*.*?\*/", " ", text, flags=re.S))
+        if found:
+            self.package = re.sub(r"\s", "", found[1])
+        front = "".join(word + "/" for word in self.package.split(".") if word)
+        while not self.is_kind("end"):
+            self.statement("File", self.package, self.package, front, None, None)
+
+    def declared(self, kind, scope, front, outer, name):
+        found = Declaration(self, kind, scope, front, name)
+        found.outer = outer
+        self.declarations.append(found)
+        return found
+
+    def note(self, element, scope, field=None):
+        self.options.append(self.option(element, scope, field))
+
+    def brackets(self, element, scope, field=None):
+        if self.passes("["):
+            self.note(element, scope, field)
+            while self.passes(","):
+                self.note(element, scope, field)
+            self.take("]")
+
+    def pass_statement(self):
+        while self.take()[1] != ";":
+            pass
+
+    def type_use(self, scope):
+        if self.peek()[1] in SCALARS and not self.peek(1)[1] == ".":
+            self.take()
+            return None
+        return TypeUse(scope, self.passes("."), [word for word, _ in self.dotted()])
+
+    def inside(self, within, outer_scope, scope, front, outer, extended=None):
+        self.take("{")
+        while not self.passes("}"):
+            self.statement(within, outer_scope, scope, front, outer, extended)
+
+    def statement(self, within, outer_scope, scope, front, outer, extended):
+        """A statement in braces of this kind, around which is `outer_scope`; what it declares is in `scope`."""
+        word = self.peek()[1]
+        if self.passes(";"):
+            return
+        if word == "option" and within != "Extend":
+            self.take()
+            self.note(within, outer_scope)
+            self.take(";")
+        elif within == "File" and word in ("syntax", "package") or within in ("Message", "Enum") and word == "reserved":
+            self.pass_statement()
+        elif within == "File" and word == "import":
+            self.take()
+            is_public = self.sees("public")
+            if is_public or self.sees("weak"):
+                self.take()
+            path = ""
+            while self.is_kind("text"):
+                path += self.take()[1][1:-1]
+            self.imports.append((is_public, path))
+            self.take(";")
+        elif within in ("File", "Message") and word in ("message", "enum", "extend", "service", "oneof"):
+            self.block(word, scope, front, outer)
+        elif within == "Message" and word == "extensions":
+            while not self.sees("[") and not self.sees(";"):
+                self.take()
+            self.brackets("ExtensionRange", outer_scope)
+            self.take(";")
+        elif within == "Service":
+            self.method(scope, front, outer)
+        elif within == "Enum":
+            self.declared("value", scope, front, outer, self.take(kind="word")[1])
+            self.pass_number()
+            self.brackets("EnumValue", scope)
+            self.take(";")
+        else:
+            self.field(scope, front, outer, extended, within)
+
+    def block(self, word, scope, front, outer):
+        self.take()
+        if word == "extend":
+            extended = self.type_use(scope)
+            self.inside("Extend", scope, scope, front, outer, extended)
+            return
+        found = self.declared(word, scope, front, outer, self.take(kind="word")[1])
+        within = word.capitalize()
+        if word == "oneof":
+            self.inside(within, scope, scope, front, outer)
+        elif word == "enum":
+            self.inside(within, scope, scope, found.symbol, found)
+        else:
+            self.inside(within, scope, found.full_name, found.symbol, found)
+
+    def method(self, scope, front, outer):
+        self.take("rpc")
+        self.declared("method", scope, front, outer, self.take(kind="word")[1])
+        while not self.sees(";") and not self.sees("{"):
+            self.take()
+        if self.sees("{"):
+            self.inside("Method", scope, scope, front, outer)
+        else:
+            self.take(";")
+
+    def pass_number(self):
+        self.take("=")
+        self.passes("-")
+        self.take(kind="number")
+
+    def field(self, scope, front, outer, extended, within):
+        if self.peek()[1] in ("optional", "repeated", "required") and within != "Oneof":
+            self.take()
+        is_map = self.sees("map", "<")
+        if is_map:
+            self.take(), self.take(), self.take(), self.take(",")
+            use = self.type_use(scope)
+            self.take(">")
+        is_group = not is_map and self.sees("group") and self.peek(1)[0] == "word" and self.peek(2)[1] == "="
+        if is_group:
+            self.take()
+            use = None
+        elif not is_map:
+            use = self.type_use(scope)
+        name = self.take(kind="word")[1]
+        found = self.declared("field", scope, front, outer, name.lower() if is_group else name)
+        found.type, found.extended, found.is_map = use, extended, is_map
+        self.pass_number()
+        if is_group:
+            found.group = self.declared("message", scope, front, outer, name)
+        self.brackets("Field", scope, found)
+        if is_group:
+            self.inside("Message", scope, found.group.full_name, found.group.symbol, found.group)
+        else:
+            self.take(";")

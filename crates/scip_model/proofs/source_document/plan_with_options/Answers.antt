@@ -1,0 +1,4 @@
+use Rattle.scip_model.proofs.source_document.plan_with_options.Goals as goal
+
+pub returns-clause-option_gaps : goal.returns-clause-option_gaps
+returns-clause-option_gaps c = rw c.from_vec.ensures c.in_ok-planned.ensures.option_gaps

@@ -1,9 +1,9 @@
 -- The words of a name, one by one.
-use Rattle.std.proofs.Common.{◌≡◌, ◌↔◌, ℕ, ◌+◌, ◌<◌, ◌≤◌, Bool, List, [], ◌∷◌, ◌++◌, length, map, take, get_or, Some}
-use Rattle.std.proofs.Common.{IsTrue, refl, ap, sym, ◌∙◌, subst, arith}
+use Rattle.std.proofs.Common.{◌≡◌, ◌↔◌, ℕ, ◌+◌, ◌<◌, ◌≤◌, Bool, List, [], ◌∷◌, ◌++◌, length, map, take, get_or, Option, None, Some}
+use Rattle.std.proofs.Common.{IsTrue, MatchOption, refl, ap, sym, ◌∙◌, subst, arith}
 use Rattle.std.specs.Str.{bytes_eq}
 use Rattle.std.specs.List.{All, slice_get}
-use Rattle.std.proofs.lemmas.List.{map-append, take_all}
+use Rattle.std.proofs.lemmas.List.{length-map, map-append, take_all}
 use Rattle.std.proofs.lemmas.List.Elements.{All-contains}
 use Rattle.std.proofs.lemmas.Option.{slice_get-get_or}
 use Rattle.std.proofs.lemmas.Slice.Eq.{bytes_eq-Decides}
@@ -13,8 +13,8 @@ use Rattle.proto_lex.specs.declared.span.Span.{Span}
 use Rattle.proto_lex.specs.Lexed.{IsPart, part_of}
 use Rattle.proto_options.specs.declared.names.OptionName.{OptionName}
 use Rattle.option_link.specs.Contexts.{HasWords}
-use Rattle.option_link.proofs.LoopLemmas.{UpTo}
-use Rattle.option_link.proofs.NameLemmas.{same_word}
+use Rattle.option_link.proofs.LoopLemmas.{UpTo, none_yet, one_more}
+use Rattle.option_link.proofs.NameLemmas.{one_word}
 
 abbrev pub now : Bor (List ℕ) → List ℕ
 now word = word.now
@@ -52,15 +52,6 @@ words_all text name spans i words are all parts so_far =
 
 -- ---- one word
 
-pub one_text : (words : List (Bor (List ℕ))) (d : Bor (List ℕ)) (word : List ℕ) (result : Bool) → length words ≡ 1
-    → result ≡ bytes_eq (get_or words 0 d).now word → IsTrue result ↔ (map now words ≡ word ∷ [])
-one_text [] d word result size is = absurd (omega (arith, size))
-one_text (w ∷ []) d word result size is = (
-  λ t. ap (λ (x : List ℕ). x ∷ []) ((bytes_eq-Decides w.now word).0 (sym is ∙ t)),
-  λ e. is ∙ (bytes_eq-Decides w.now word).1 (same_word w.now word e),
-)
-one_text (w ∷ (v ∷ ws)) d word result size is = absurd (omega (arith, size))
-
 pub one_of : (words : List (Bor (List ℕ))) (d : Bor (List ℕ)) → length words ≡ 1
     → map now words ≡ (get_or words 0 d).now ∷ []
 one_of [] d size = absurd (omega (arith, size))
@@ -75,3 +66,30 @@ pub many_one : (words : List (Bor (List ℕ))) (word : List ℕ) → 2 ≤ lengt
 many_one [] word many e = omega (arith, many)
 many_one (w ∷ []) word many e = omega (arith, many)
 many_one (w ∷ (v ∷ ws)) word many e = omega (arith, ap length e)
+
+-- whether the word of a name is this one
+pub word_is : (text : List ℕ) (name : OptionName) (only word : List ℕ) (result : Bool) → result ≡ bytes_eq only word
+    → HasWords text name (only ∷ []) → IsTrue result ↔ HasWords text name (word ∷ [])
+word_is text name only word result is has = (
+  λ t. subst (λ (w : List ℕ). HasWords text name (w ∷ [])) ((bytes_eq-Decides only word).0 (sym is ∙ t)) has,
+  λ other. is ∙ (bytes_eq-Decides only word).1 (one_word text name only word has other),
+)
+
+module _ (text : List ℕ) (name : OptionName) (spans : List Span) (are : spans ≡ name.name.components) where
+  pub not_one_word : (length spans ≡ 1 → ⊥) → (word : List ℕ) → HasWords text name (word ∷ []) → ⊥
+  not_one_word other word has =
+      other (ap length are ∙ (sym (length-map name.name.components (part_of text)) ∙ ap length has.are))
+
+  pub only_word_by : (d : Span) (found : Option (Bor (List ℕ))) → length spans ≡ 1
+      → MatchOption found (IsPart text (get_or spans 0 d) → ⊥)
+      (λ word. IsPart text (get_or spans 0 d) × (word.now ≡ part_of text (get_or spans 0 d)))
+      → MatchOption found ((word : List ℕ) → HasWords text name (word ∷ []) → ⊥)
+      (λ word. HasWords text name (word.now ∷ []))
+  only_word_by d None size not = λ word.
+      not_words text name spans 0 (get_or spans 0 d) are (slice_get-get_or spans 0 d (omega (arith, size))) not
+      (word ∷ [])
+  only_word_by d (Some word) size part =
+      let at = slice_get-get_or spans 0 d (omega (arith, size)) in
+      words_all text name spans 1 (word ∷ []) are (omega (arith, size))
+      (one_more (IsPart text) spans 0 (get_or spans 0 d) at part.0 (none_yet (IsPart text) spans))
+      (words_more text spans 0 (get_or spans 0 d) [] (word ∷ []) word at part.1 refl refl)

@@ -2,7 +2,6 @@
 
 ghost use Rattle.std.specs.Prelude.{ℕ, List, ⊤, ◌≡◌, ◌<◌, ◌↔◌, IsTrue, IfOk, MatchOption, length, map};
 ghost use denote.Ref.{Bor};
-ghost use Rattle.std.specs.String.{string_bytes};
 ghost use Rattle.proto_decl.specs.declared.declaration.Declaration.{Declaration};
 ghost use Rattle.proto_decl.specs.declared.declaration.DeclarationKind.TheVariants.{Field};
 ghost use Rattle.option_link.specs.declared.place.DeclaredPlace.{DeclaredPlace};
@@ -14,10 +13,10 @@ ghost use Rattle.option_link.specs.Contexts.{MayBeExtended};
 ghost use Rattle.option_link.specs.Found.{IsExtendedName, IsExtensionFrom, IsExtensionNamed, IsScope};
 
 use crate::contexts::{Context, options_message};
-use crate::members::full_name_of;
 use crate::naming::Asked;
 use crate::place::{DeclaredPlace, is_same};
 use crate::sought::Sought;
+use basics::KeptText;
 use proto_decl::{facts_are_filled, facts_in_order, scope_around};
 use std::alloc::{AllocError, Global};
 
@@ -27,17 +26,17 @@ impl<'k, 'n, 'a, 't> Asked<'k, 'n, 'a, 't> {
         self,
         alloc: Global,
         context: Context,
-    ) -> Result<Option<String>, AllocError>
+    ) -> Result<Option<KeptText<'static>>, AllocError>
         requires { IsClear self.files.names.now context }
         ensures named { IfOk result (λ found. MatchOption found ((message : DeclaredPlace)
             → MayBeExtended self.entry.files.names.now self.entry.option.now context message → ⊥)
-            (λ name. IsExtendedName self.entry.files.names.now self.entry.option.now context (string_bytes name))) }
-        ensures some { IfOk result (λ found. MatchOption found ⊤ (λ name. 0 < length (string_bytes name))) }
+            (IsExtendedName self.entry.files.names.now self.entry.option.now context)) }
+        ensures some { IfOk result (λ found. MatchOption found ⊤ (λ name. 0 < length name)) }
     {
         match context {
             Context::Options => {
-                let name = String::from_str(alloc, options_message(self.option.element))?;
-                Ok(Some(name))
+                let name = options_message(self.option.element);
+                Ok(Some(KeptText::borrowed(name)))
             }
             Context::Message(message) => self.message_name(alloc, message),
             Context::Entries(_) => Ok(None),
@@ -52,19 +51,20 @@ impl<'k, 'n, 'a, 't> Asked<'k, 'n, 'a, 't> {
         self,
         alloc: Global,
         message: DeclaredPlace,
-    ) -> Result<Option<String>, AllocError>
+    ) -> Result<Option<KeptText<'static>>, AllocError>
         requires { IsClear self.files.names.now (inside.Message message) }
         ensures named { IfOk result (λ found. MatchOption found ⊥ (λ name. (declaration : Declaration)
             × Stands self.entry.files.names.now message declaration
-            × (declaration.full_name ≡ string_bytes name))) }
-        ensures some { IfOk result (λ found. MatchOption found ⊤ (λ name. 0 < length (string_bytes name))) }
+            × (declaration.full_name ≡ name))) }
+        ensures some { IfOk result (λ found. MatchOption found ⊤ (λ name. 0 < length name)) }
     {
         self.files.names.linked();
         facts_are_filled();
         // From here on it is known that no full name is empty.
         match self.files.names.declaration_at(message) {
             Some(declared) => {
-                let name = full_name_of(alloc, declared)?;
+                let text = declared.full_name().to_text(alloc)?;
+                let name = KeptText::owned(alloc, text)?;
                 Ok(Some(name))
             }
             None => Ok(None),

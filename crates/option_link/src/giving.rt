@@ -70,7 +70,7 @@ impl<'k, 'n, 'a, 't> Asked<'k, 'n, 'a, 't> {
             Context::Scalar => Ok(is_as(name, OptionRole::Value)),
             Context::Untold => Ok(is_none_of_extension(name)),
             Context::Options => self.is_without_message(alloc, name),
-            Context::Entries(_) => self.is_entry(alloc, name),
+            Context::Entries(_) => Ok(self.is_entry(name)),
             Context::Message(_) => Ok(false),
             Context::Enum(_) => Ok(false),
         }
@@ -91,17 +91,16 @@ impl<'k, 'n, 'a, 't> Asked<'k, 'n, 'a, 't> {
     }
 
     /// Whether a name is `key` or `value`.
-    fn is_entry(self, alloc: Global, name: &OptionName) -> Result<bool, AllocError>
-        ensures { IfOk result (λ is. IsTrue is ↔ IsEntryName self.entry.text.now name.now) }
+    fn is_entry(self, name: &OptionName) -> bool
+        ensures { IsTrue result ↔ IsEntryName self.entry.text.now name.now }
     {
         if !is_as(name, OptionRole::Field) {
-            return Ok(false);
+            return false;
         }
-        let is_key = is_word(alloc, self.text, name, "key")?;
-        if is_key {
-            return Ok(true);
+        if is_word(self.text, name, "key") {
+            return true;
         }
-        is_word(alloc, self.text, name, "value")
+        is_word(self.text, name, "value")
     }
 
     /// What names are looked up in that belong to this one.
@@ -209,12 +208,10 @@ impl<'k, 'n, 'a, 't> Asked<'k, 'n, 'a, 't> {
         if !is_as(name, OptionRole::Field) {
             return Ok(None);
         }
-        let is_key = is_word(alloc, self.text, name, "key")?;
-        if is_key {
+        if is_word(self.text, name, "key") {
             return Ok(Some(Context::Scalar));
         }
-        let is_value = is_word(alloc, self.text, name, "value")?;
-        if !is_value {
+        if !is_word(self.text, name, "value") {
             return Ok(None);
         }
         self.files.value_gives(alloc, map)
@@ -234,8 +231,7 @@ impl<'k, 'n, 'a, 't> Asked<'k, 'n, 'a, 't> {
         }
         match field_of(self.option.element) {
             Some(field) => {
-                let is_default = self.is_taken(alloc, "default")?;
-                if !is_default {
+                if !self.is_taken("default") {
                     return Ok(Some(Context::Untold));
                 }
                 self.field_given(alloc, field)

@@ -277,7 +277,7 @@ fn find_named(
     facts_in_order();
     facts_are_filled();
     // From here on it is known that a name names one thing at most.
-    let context = asked.context_of(alloc, name, found.given.as_slice())?;
+    let context = asked.context_of(name, found.given.as_slice());
     let target = target_in(alloc, asked, number, name, context)?;
     let given = given_in(alloc, asked, name, context, target)?;
     let is = is_gap(alloc, asked, name, context, target)?;
@@ -322,12 +322,13 @@ fn all_targets(alloc: Global, asked: Asked<'_, '_, '_, '_>) -> Result<OptionTarg
         asked.entry.text.now asked.entry.option.now number
         name)) }
 {
+    let count = asked.option.setting.names.as_slice().len();
     let mut found = Found {
-        targets: Vec::new(alloc),
-        given: Vec::new(alloc),
+        targets: Vec::with_capacity(alloc, count)?,
+        given: Vec::with_capacity(alloc, count)?,
         gap: None,
     };
-    for number in 0..asked.option.setting.names.as_slice().len() {
+    for number in 0..count {
         find_next(alloc, asked, number, &mut found)?;
     }
     Ok(OptionTargets {

@@ -17,7 +17,7 @@ ghost use Rattle.option_link.specs.Found.{AreGiven, IsOneWord, in_braces};
 use crate::contexts::Context;
 use crate::fields::KnownFiles;
 use crate::place::DeclaredPlace;
-use crate::words::{is_text, is_word, words_of};
+use crate::words::{is_text, is_word, only_word, words_of};
 use proto_lex::Span;
 use proto_link::Linker;
 use proto_options::{Element, FileOption, OptionName, OptionRole};
@@ -84,48 +84,46 @@ impl<'k, 'n, 'a, 't> Asked<'k, 'n, 'a, 't> {
     }
 
     /// Whether the option is this word, of a field: protoc's parser takes some of these for itself.
-    pub(crate) fn is_taken(self, alloc: Global, word: &str) -> Result<bool, AllocError>
-        ensures { IfOk result (λ is. IsTrue is
-            ↔ ((field : Span) × IsTaken self.entry.text.now word.now self.entry.option.now field)) }
+    pub(crate) fn is_taken(self, word: &str) -> bool
+        ensures { IsTrue result
+            ↔ ((field : Span) × IsTaken self.entry.text.now word.now self.entry.option.now field) }
     {
         match field_of(self.option.element) {
-            Some(_field) => self.is_one_word(alloc, word),
-            None => Ok(false),
+            Some(_field) => self.is_one_word(word),
+            None => false,
         }
     }
 
     /// Whether the option's name is this word.
-    fn is_one_word(self, alloc: Global, word: &str) -> Result<bool, AllocError>
-        ensures { IfOk result (λ is. IsTrue is ↔ IsOneWord self.entry.text.now word.now self.entry.option.now) }
+    fn is_one_word(self, word: &str) -> bool
+        ensures { IsTrue result ↔ IsOneWord self.entry.text.now word.now self.entry.option.now }
     {
         let parts = self.option.setting.parts;
         if parts != 1 {
-            return Ok(false);
+            return false;
         }
         match self.name_at(0) {
             Some(name) => {
                 if !is_as(name, OptionRole::Field) {
-                    return Ok(false);
+                    return false;
                 }
-                is_word(alloc, self.text, name, word)
+                is_word(self.text, name, word)
             }
-            None => Ok(false),
+            None => false,
         }
     }
 
     /// What the first part is looked up in.
-    fn root(self, alloc: Global) -> Result<Context, AllocError>
-        ensures { IfOk result (Root self.entry.text.now self.entry.option.now) }
+    fn root(self) -> Context
+        ensures { Root self.entry.text.now self.entry.option.now result }
     {
-        let is_default = self.is_taken(alloc, "default")?;
-        if is_default {
-            return Ok(Context::Untold);
+        if self.is_taken("default") {
+            return Context::Untold;
         }
-        let is_json_name = self.is_taken(alloc, "json_name")?;
-        if is_json_name {
-            return Ok(Context::Untold);
+        if self.is_taken("json_name") {
+            return Context::Untold;
         }
-        Ok(Context::Options)
+        Context::Options
     }
 
     /// The message of the element's options in which plain names are looked up.
@@ -138,33 +136,47 @@ impl<'k, 'n, 'a, 't> Asked<'k, 'n, 'a, 't> {
     }
 
     /// What a name is looked up in, by what is known of the names in front of it.
-    pub(crate) fn context_of(
-        self,
-        alloc: Global,
-        name: &OptionName,
-        given: &[Option<Context>],
-    ) -> Result<Option<Context>, AllocError>
+    pub(crate) fn context_of(self, name: &OptionName, given: &[Option<Context>]) -> Option<Context>
         requires numbered { slice_get self.option.now.setting.names (length given.now) ≡ Some name.now }
         requires given { AreGiven self.files.names.now self.files.known.now self.file self.text.now self.option.now
             given.now }
-        ensures { IfOk result (λ found. MatchOption found ((context : Context) → StandsIn self.entry.files.names.now
+        ensures { MatchOption result ((context : Context) → StandsIn self.entry.files.names.now
             self.entry.files.known.now self.entry.file self.entry.text.now self.entry.option.now
             (length given.now) context → ⊥)
             (λ context. StandsIn self.entry.files.names.now self.entry.files.known.now self.entry.file
             self.entry.text.now self.entry.option.now (length given.now) context
-            × IsClear self.entry.files.names.now context)) }
+            × IsClear self.entry.files.names.now context) }
     {
         match name.around {
-            None => {
-                let root = self.root(alloc)?;
-                Ok(Some(root))
-            }
-            Some(before) => Ok(given_at(given, before)),
+            None => Some(self.root()),
+            Some(before) => given_at(given, before),
         }
     }
 
     /// What a name names that is looked up in this.
     pub(crate) fn target(
+        self,
+        alloc: Global,
+        number: usize,
+        name: &OptionName,
+        context: Context,
+    ) -> Result<Option<DeclaredPlace>, AllocError>
+        requires file { self.file < length self.files.names.now }
+        requires clear { IsClear self.files.names.now context }
+        ensures { IfOk result (λ found. MatchOption found ((at : DeclaredPlace) → NamesIn self.entry.files.names.now
+            self.entry.files.known.now self.entry.file self.entry.text.now self.entry.option.now number name.now
+            context at → ⊥)
+            (NamesIn self.entry.files.names.now self.entry.files.known.now self.entry.file
+            self.entry.text.now self.entry.option.now number name.now context)) }
+    {
+        match only_word(self.text, name) {
+            Some(word) => self.target_by(alloc, number, name, &[word], context),
+            None => self.target_of_words(alloc, number, name, context),
+        }
+    }
+
+    /// The same of a name of any number of words.
+    fn target_of_words(
         self,
         alloc: Global,
         number: usize,

@@ -43,7 +43,7 @@ impl<'k, 'n, 'a, 't> Asked<'k, 'n, 'a, 't> {
     {
         let count = name.name.components.as_slice().len();
         if count == 1 {
-            return Ok(Vec::new(alloc));
+            return Vec::with_capacity(alloc, 1);
         }
         match self.files.names.declaration_at(place) {
             Some(declared) => {

@@ -54,28 +54,24 @@ pub(crate) fn is_text(one: &str, other: &str) -> bool
     one == other
 }
 
-/// Whether these words are this one.
-fn are_one(words: &[&str], word: &str) -> bool
-    ensures { IsTrue result ↔ (map (λ (word : Bor (List ℕ)). word.now) words.now ≡ word.now ∷ []) }
+/// The word of a name that is one, if it is a part of the text.
+pub(crate) fn only_word<'n>(text: &'n str, name: &OptionName) -> Option<&'n str>
+    ensures { MatchOption result ((word : List ℕ) → HasWords text.now name.now (word ∷ []) → ⊥)
+        (λ word. HasWords text.now name.now (word.now ∷ [])) }
 {
-    match words {
-        [] => false,
-        [only] => is_text(only, word),
-        [_, _, ..] => false,
+    match name.name.components.as_slice() {
+        [] => None,
+        [only] => part_of(text, *only),
+        [_, _, ..] => None,
     }
 }
 
 /// Whether a name is one word, and which.
-pub(crate) fn is_word(
-    alloc: Global,
-    text: &str,
-    name: &OptionName,
-    word: &str,
-) -> Result<bool, AllocError>
-    ensures { IfOk result (λ is. IsTrue is ↔ HasWords text.now name.now (word.now ∷ [])) }
+pub(crate) fn is_word(text: &str, name: &OptionName, word: &str) -> bool
+    ensures { IsTrue result ↔ HasWords text.now name.now (word.now ∷ []) }
 {
-    match words_of(alloc, text, name)? {
-        Some(words) => Ok(are_one(words.as_slice(), word)),
-        None => Ok(false),
+    match only_word(text, name) {
+        Some(only) => is_text(only, word),
+        None => false,
     }
 }

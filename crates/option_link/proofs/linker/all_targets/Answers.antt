@@ -10,10 +10,10 @@ loop-number-init c =
     let file = self.file in
     let text = self.text.now in
     let option = self.option.now in
-    found_none files known file text option _ c.new.ensures.items c.new-2.ensures.items refl
+    found_none files known file text option _ c.in_ok-with_capacity.ensures.items c.in_ok-with_capacity-2.ensures.items refl
 
 pub find_next-requires-clause-within : goal.find_next-requires-clause-within
-find_next-requires-clause-within c = omega (arith, ap length c.as_slice-number-end.ensures)
+find_next-requires-clause-within c = omega (arith, ap length c.as_slice-count.ensures)
 
 pub returns-clause-targets : goal.returns-clause-targets
 returns-clause-targets c =
@@ -24,7 +24,7 @@ returns-clause-targets c =
     let text = self.text.now in
     let option = self.option.now in
     all_targets_by files known file text option c.loop-number.number (omega
-    (arith, ap length c.as_slice-number-end.ensures))
+    (arith, ap length c.as_slice-count.ensures))
     c.loop-number.found c.loop-number.invariant c.from_vec.result c.from_vec.ensures
 
 pub returns-clause-rising : goal.returns-clause-rising
@@ -36,7 +36,7 @@ returns-clause-rising c =
     let text = self.text.now in
     let option = self.option.now in
     all_rising files known file text option c.loop-number.number (omega
-    (arith, ap length c.as_slice-number-end.ensures))
+    (arith, ap length c.as_slice-count.ensures))
     c.loop-number.found c.loop-number.invariant c.from_vec.result c.from_vec.ensures
 
 pub returns-clause-gap : goal.returns-clause-gap
@@ -47,5 +47,5 @@ returns-clause-gap c =
     let file = self.file in
     let text = self.text.now in
     let option = self.option.now in
-    all_gaps files known file text option c.loop-number.number (omega (arith, ap length c.as_slice-number-end.ensures))
+    all_gaps files known file text option c.loop-number.number (omega (arith, ap length c.as_slice-count.ensures))
     c.loop-number.found c.loop-number.invariant

@@ -12,13 +12,13 @@ use Rattle.option_link.proofs.LoopLemmas.{option_as}
 use Rattle.option_link.proofs.TableLemmas.{source_within}
 use Rattle.option_link.proofs.linker.find_named.Goals as goal
 
-pub context_of-requires-clause-numbered : goal.context_of-requires-clause-numbered
-context_of-requires-clause-numbered c =
+pub context_of-context-requires-clause-numbered : goal.context_of-context-requires-clause-numbered
+context_of-context-requires-clause-numbered c =
     subst (λ (n : ℕ). slice_get c.args.asked.option.now.setting.names n ≡ Some c.args.name.now)
     (sym (ap length c.as_slice.ensures.value ∙ c.requires.found.each)) c.requires.numbered
 
-pub context_of-requires-clause-given : goal.context_of-requires-clause-given
-context_of-requires-clause-given c =
+pub context_of-context-requires-clause-given : goal.context_of-context-requires-clause-given
+context_of-context-requires-clause-given c =
     let self = c.args.asked in
     let files = self.files.names.now in
     let known = self.files.known.now in
@@ -39,9 +39,9 @@ target_in-requires-clause-clear c =
     let text = self.text.now in
     let option = self.option.now in
     let count = length c.as_slice.result.now in
-    option_as c.in_ok-context.context ((context : Context) → StandsIn files known file text option count context → ⊥) ⊤
+    option_as c.context_of-context.result ((context : Context) → StandsIn files known file text option count context → ⊥) ⊤
     (λ context. StandsIn files known file text option count context × IsClear files context) (IsClear files)
-    (λ none. tt) (λ context its. its.1) c.in_ok-context.ensures
+    (λ none. tt) (λ context its. its.1) c.context_of-context.ensures
 
 pub given_in-requires : goal.given_in-requires
 given_in-requires c = source_within c.args.asked.files.names.now c.args.asked.file c.requires.source
@@ -56,7 +56,7 @@ add_target-requires c =
     let option = self.option.now in
     let number = c.args.number in
     let name = c.args.name.now in
-    let context = c.in_ok-context.context in
+    let context = c.context_of-context.result in
     option_as c.in_ok-target.target
     ((inner : Context) (at : DeclaredPlace) → context ≡ Some inner
     → NamesIn files known file text option number name inner at → ⊥) ⊤
@@ -75,13 +75,13 @@ returns c =
     let option = self.option.now in
     let number = c.args.number in
     let name = c.args.name.now in
-    let context = c.in_ok-context.context in
+    let context = c.context_of-context.result in
     let target = c.in_ok-target.target in
     let size : length c.as_slice.result.now ≡ number =
     ap length c.as_slice.ensures.value ∙ c.requires.found.each in
     let in_context =
     subst (λ (n : ℕ). MatchOption context ((one : Context) → StandsIn files known file text option n one → ⊥)
-    (λ one. StandsIn files known file text option n one × IsClear files one)) size c.in_ok-context.ensures in
+    (λ one. StandsIn files known file text option n one × IsClear files one)) size c.context_of-context.ensures in
     let stands = option_as context ((one : Context) → StandsIn files known file text option number one → ⊥)
     ((one : Context) → StandsIn files known file text option number one → ⊥)
     (λ one. StandsIn files known file text option number one × IsClear files one)

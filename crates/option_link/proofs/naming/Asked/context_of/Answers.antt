@@ -7,15 +7,14 @@ use Rattle.option_link.proofs.LoopLemmas.{option_as}
 use Rattle.option_link.proofs.RootLemmas.{root_clear, stands_first, stands_further, stands_nowhere}
 use Rattle.option_link.proofs.naming.Asked.context_of.Goals as goal
 
-pub returns-in_ok-root-in-None : goal.returns-in_ok-root-in-None
-returns-in_ok-root-in-None c =
+pub returns-in-None : goal.returns-in-None
+returns-in-None c =
     let self = c.args.self in
-    let root = c.in_ok-root-in-None.root in
-    let its = c.in_ok-root-in-None.ensures in (
+    let root = c.root.result in (
       stands_first self.files.names.now self.files.known.now self.file self.text.now self.option.now c.args.given.now
-          c.args.name.now c.requires.numbered c.in-None.is root its,
+          c.args.name.now c.requires.numbered c.in-None.is root c.root.ensures,
       root_clear self.files.names.now self.files.known.now self.file self.text.now self.option.now c.args.given.now
-          c.args.name.now c.requires.numbered root its,
+          c.args.name.now c.requires.numbered root c.root.ensures,
     )
 
 pub returns-in-Some : goal.returns-in-Some

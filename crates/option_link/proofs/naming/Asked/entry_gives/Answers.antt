@@ -14,15 +14,15 @@ returns-then-not-is_as c =
     (entry_plain self.files.names.now self.files.known.now self.file self.text.now self.option.now c.args.name.now
     c.args.map inner x)
 
-pub returns-then-is_key : goal.returns-then-is_key
-returns-then-is_key c = key (c.is_as.ensures.0 c.if-not-is_as.false) (c.in_ok-is_key.ensures.0 c.if-is_key.true)
+pub returns-then-is_word : goal.returns-then-is_word
+returns-then-is_word c = key (c.is_as.ensures.0 c.if-not-is_as.false) (c.is_word.ensures.0 c.if-is_word.true)
 
-pub returns-then-not-is_value : goal.returns-then-not-is_value
-returns-then-not-is_value c =
+pub returns-then-not-is_word : goal.returns-then-not-is_word
+returns-then-not-is_word c =
     let self = c.args.self in
     entry_word self.files.names.now self.files.known.now self.file self.text.now self.option.now c.args.name.now
-    c.args.map (fails c.in_ok-is_key.is_key _ c.in_ok-is_key.ensures c.if-is_key.false)
-    (fails c.in_ok-is_value.is_value _ c.in_ok-is_value.ensures c.if-not-is_value.true)
+    c.args.map (fails c.is_word.result _ c.is_word.ensures c.if-is_word.false)
+    (fails c.is_word-2.result _ c.is_word-2.ensures c.if-not-is_word.true)
 
 pub returns : goal.returns
 returns c =
@@ -37,7 +37,7 @@ returns c =
     ((inner : Context) → LeadsUnnamed files known self.file text option name (inside.Entries holder) inner → ⊥)
     (ValueGives files known holder) (LeadsUnnamed files known self.file text option name (inside.Entries holder))
     (λ none inner x. none inner (entry_value files known self.file text option name holder
-    (fails c.in_ok-is_key.is_key _ c.in_ok-is_key.ensures c.if-is_key.false) inner x))
-    (λ inner x. map_value (c.is_as.ensures.0 c.if-not-is_as.false) (c.in_ok-is_value.ensures.0
-    c.if-not-is_value.false) x)
+    (fails c.is_word.result _ c.is_word.ensures c.if-is_word.false) inner x))
+    (λ inner x. map_value (c.is_as.ensures.0 c.if-not-is_as.false) (c.is_word-2.ensures.0
+    c.if-not-is_word.false) x)
     c.value_gives.ensures

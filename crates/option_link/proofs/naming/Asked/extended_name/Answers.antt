@@ -1,5 +1,4 @@
 use Rattle.std.proofs.Common.{◌≡◌, ◌<◌, List, ℕ, IfOk, MatchOption, length, sym, ◌∙◌, subst}
-use Rattle.std.specs.String.{string_bytes}
 use Rattle.proto_decl.specs.declared.declaration.Declaration.{Declaration}
 use Rattle.option_link.specs.Contexts.{MayBeExtended}
 use Rattle.option_link.specs.Found.{IsExtendedName}
@@ -13,17 +12,17 @@ use Rattle.option_link.proofs.ExtensionLemmas.{options_called, message_called, e
 use Rattle.option_link.proofs.ExtensionLemmas.{scalar_extends_none, untold_extends_none, options_some}
 use Rattle.option_link.proofs.naming.Asked.extended_name.Goals as goal
 
-pub returns-in_ok-name-in-Options-clause-named : goal.returns-in_ok-name-in-Options-clause-named
-returns-in_ok-name-in-Options-clause-named c =
+pub returns-in-Options-clause-named : goal.returns-in-Options-clause-named
+returns-in-Options-clause-named c =
     let self = c.args.self in
-    subst (λ (context : Context). IsExtendedName self.files.names.now self.option.now context
-    (string_bytes c.in_ok-name-in-Options.name)) (sym c.in-Options.is)
-    (options_called self.files.names.now self.option.now (string_bytes c.in_ok-name-in-Options.name)
-    (c.in_ok-name-in-Options.ensures.ok ∙ c.options_message.ensures))
+    subst (λ (context : Context). IsExtendedName self.files.names.now self.option.now context c.borrowed.result)
+    (sym c.in-Options.is)
+    (options_called self.files.names.now self.option.now c.borrowed.result
+    (c.borrowed.ensures ∙ c.options_message-name.ensures))
 
-pub returns-in_ok-name-in-Options-clause-some : goal.returns-in_ok-name-in-Options-clause-some
-returns-in_ok-name-in-Options-clause-some c =
-    subst (λ (n : List ℕ). 0 < length n) (sym (c.in_ok-name-in-Options.ensures.ok ∙ c.options_message.ensures))
+pub returns-in-Options-clause-some : goal.returns-in-Options-clause-some
+returns-in-Options-clause-some c =
+    subst (λ (n : List ℕ). 0 < length n) (sym (c.borrowed.ensures ∙ c.options_message-name.ensures))
     (options_some c.args.self.option.now.element)
 
 pub message_name-requires : goal.message_name-requires
@@ -37,13 +36,13 @@ returns-in-Message-clause-named c =
     let message = c.in-Message.message in
     subst (λ (context : Context). IfOk c.message_name.result (λ found. MatchOption found
     ((other : DeclaredPlace) → MayBeExtended files option context other → ⊥)
-    (λ name. IsExtendedName files option context (string_bytes name)))) (sym c.in-Message.is)
+    (IsExtendedName files option context))) (sym c.in-Message.is)
     (found_as c.message_name.result ⊥
     ((other : DeclaredPlace) → MayBeExtended files option (inside.Message message) other → ⊥)
     (λ name. (declaration : Declaration) × Stands files message declaration
-    × (declaration.full_name ≡ string_bytes name))
-    (λ name. IsExtendedName files option (inside.Message message) (string_bytes name)) (λ none. absurd none)
-    (λ name its. message_called files option message its.0 (string_bytes name) its.1 its.2)
+    × (declaration.full_name ≡ name))
+    (IsExtendedName files option (inside.Message message)) (λ none. absurd none)
+    (λ name its. message_called files option message its.0 name its.1 its.2)
     c.message_name.ensures.named)
 
 pub returns-in-Entries-clause-named : goal.returns-in-Entries-clause-named

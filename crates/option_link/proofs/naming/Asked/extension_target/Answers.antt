@@ -1,6 +1,5 @@
 use Rattle.std.proofs.Common.{◌<◌, Bool, List, ℕ, IfOk, MatchOption, length, map, sym, subst}
 use Rattle.std.specs.Option.{is_some}
-use Rattle.std.specs.String.{string_bytes}
 use Rattle.proto_options.specs.declared.names.OptionRole.TheVariants as role
 use Rattle.option_link.specs.Contexts.{NamesAs}
 use Rattle.option_link.specs.Found.{IsExtensionFrom, IsScope}
@@ -13,7 +12,7 @@ use Rattle.option_link.proofs.naming.Asked.extension_target.Goals as goal
 
 pub scope_of-scope-requires : goal.scope_of-scope-requires
 scope_of-scope-requires c =
-    subst (λ (n : List ℕ). 0 < length n) (sym c.as_str.ensures.value)
+    subst (λ (n : List ℕ). 0 < length n) (sym c.as_str.ensures)
     (some_of _ _ _ c.in-Some.is c.in_ok-extended.ensures.some)
 
 pub returns-in-Some : goal.returns-in-Some
@@ -26,10 +25,10 @@ returns-in-Some c =
     let name = c.args.name.now in
     let context = c.args.context in
     let words = map now c.args.words.now in
-    let extended = string_bytes c.in-Some.extended in
+    let extended = c.in-Some.extended in
     let scope = c.scope_of-scope.result.now in
     let called = some_of _ _ _ c.in-Some.is c.in_ok-extended.ensures.named in
-    let is_scope = subst (λ (n : List ℕ). IsScope option c.args.number n scope) c.as_str.ensures.value
+    let is_scope = subst (λ (n : List ℕ). IsScope option c.args.number n scope) c.as_str.ensures
     c.scope_of-scope.ensures in
     let from = subst (λ (dot : Bool). IfOk c.extension_from.result (λ found. MatchOption found
     ((field : DeclaredPlace) → IsExtensionFrom files known self.file option context dot words scope field → ⊥)

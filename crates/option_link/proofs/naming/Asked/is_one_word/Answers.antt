@@ -1,8 +1,6 @@
-use Rattle.std.proofs.Common.{◌↔◌, ◌∷◌, [], IsTrue, sym, ◌∙◌}
+use Rattle.std.proofs.Common.{sym, ◌∙◌}
 use Rattle.std.proofs.lemmas.Option.{none-some}
-use Rattle.option_link.specs.Contexts.{HasWords}
-use Rattle.option_link.specs.Found.{IsOneWord}
-use Rattle.option_link.proofs.LoopLemmas.{fails, never_so, ok_as}
+use Rattle.option_link.proofs.LoopLemmas.{fails, never_so}
 use Rattle.option_link.proofs.RootLemmas.{not_plain, word_iff}
 use Rattle.option_link.proofs.naming.Asked.is_one_word.Goals as goal
 
@@ -16,14 +14,8 @@ returns-then-not-is_as c =
 
 pub returns-else-not-is_as : goal.returns-else-not-is_as
 returns-else-not-is_as c =
-    let text = c.args.self.text.now in
-    let word = c.args.word.now in
-    let option = c.args.self.option.now in
-    let name = c.in-Some.name.now in
-    ok_as c.is_word.result (λ is. IsTrue is ↔ HasWords text name (word ∷ []))
-    (λ is. IsTrue is ↔ IsOneWord text word option)
-    (λ is iff. word_iff text word option name c.in-Some.ensures is c.if-parts-ne1.false
-    (c.is_as.ensures.0 c.if-not-is_as.false) iff) c.is_word.ensures
+    word_iff c.args.self.text.now c.args.word.now c.args.self.option.now c.in-Some.name.now c.in-Some.ensures
+    c.is_word.result c.if-parts-ne1.false (c.is_as.ensures.0 c.if-not-is_as.false) c.is_word.ensures
 
 pub returns-in-None : goal.returns-in-None
 returns-in-None c = never_so _ (λ one. none-some one.name (sym c.in-None.ensures ∙ one.first))

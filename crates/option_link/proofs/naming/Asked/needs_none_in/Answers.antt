@@ -1,5 +1,5 @@
 use Rattle.std.proofs.Common.{◌↔◌, IsTrue, IfOk, sym, subst}
-use Rattle.option_link.specs.Found.{IsEntryName, IsWithoutMessage, NeedsNoneIn}
+use Rattle.option_link.specs.Found.{IsWithoutMessage, NeedsNoneIn}
 use Rattle.option_link.specs.declared.contexts.Context.{Context}
 use Rattle.option_link.specs.declared.contexts.Context.TheVariants as inside
 use Rattle.option_link.proofs.LoopLemmas.{never_so, ok_as}
@@ -37,14 +37,10 @@ returns-in-Options c =
 pub returns-in-Entries : goal.returns-in-Entries
 returns-in-Entries c =
     let self = c.args.self in
-    subst (λ (context : Context). IfOk c.is_entry.result (λ is. IsTrue is ↔ NeedsNoneIn self.files.names.now
-    self.text.now
-    self.option.now c.args.name.now context)) (sym c.in-Entries.is)
-    (ok_as c.is_entry.result (λ is. IsTrue is ↔ IsEntryName self.text.now c.args.name.now)
-    (λ is. IsTrue is ↔ NeedsNoneIn self.files.names.now self.text.now self.option.now c.args.name.now
-    (inside.Entries c.in-Entries.field-0))
-    (λ is iff. entries_iff self.files.names.now self.text.now self.option.now c.args.name.now c.in-Entries.field-0 is
-    iff) c.is_entry.ensures)
+    subst (λ (context : Context). IsTrue c.is_entry.result ↔ NeedsNoneIn self.files.names.now self.text.now
+    self.option.now c.args.name.now context) (sym c.in-Entries.is)
+    (entries_iff self.files.names.now self.text.now self.option.now c.args.name.now c.in-Entries.field-0
+    c.is_entry.result c.is_entry.ensures)
 
 pub returns-in-Message : goal.returns-in-Message
 returns-in-Message c =

@@ -1,4 +1,4 @@
-use Rattle.std.proofs.Common.{◌≡◌, ◌≤◌, List, ℕ, length, ap, sym, ◌∙◌, subst, arith}
+use Rattle.std.proofs.Common.{◌≡◌, ◌≤◌, [], List, ℕ, length, ap, sym, ◌∙◌, subst, arith}
 use Rattle.proto_decl.specs.Names.{components_of}
 use Rattle.proto_decl.specs.declared.declaration.Declaration.{Declaration}
 use Rattle.option_link.proofs.PartLemmas.{declared_in_file, none_outer, outer_by}
@@ -37,8 +37,12 @@ returns-then-count-eq1 c =
     let has = c.requires in
     let one : length c.args.name.now.name.components ≡ 1 =
     sym (ap length c.as_slice-count.ensures) ∙ c.if-count-eq1.true in
-    subst (NamesOuterParts c.args.self.files.names.now c.args.name.now c.args.place) (sym c.new.ensures.items)
-    (none_outer c.args.self.files.names.now c.args.name.now c.args.place has.declaration has.stands one has.few)
+    let files = c.args.self.files.names.now in
+    let name = c.args.name.now in
+    let place = c.args.place in
+    ok_as c.with_capacity.result (λ parts. parts.items ≡ []) (λ parts. NamesOuterParts files name place parts.items)
+    (λ parts none. subst (NamesOuterParts files name place) (sym none)
+    (none_outer files name place has.declaration has.stands one has.few)) c.with_capacity.ensures.items
 
 pub returns-in_ok-full_name-in-Some : goal.returns-in_ok-full_name-in-Some
 returns-in_ok-full_name-in-Some c =

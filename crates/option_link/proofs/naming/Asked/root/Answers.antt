@@ -4,14 +4,14 @@ use Rattle.option_link.proofs.LoopLemmas.{fails}
 use Rattle.option_link.proofs.RootLemmas.{not_taken}
 use Rattle.option_link.proofs.naming.Asked.root.Goals as goal
 
-pub returns-then-is_default : goal.returns-then-is_default
-returns-then-is_default c = taken (default (c.in_ok-is_default.ensures.0 c.if-is_default.true).1)
+pub returns-then-is_taken : goal.returns-then-is_taken
+returns-then-is_taken c = taken (default (c.is_taken.ensures.0 c.if-is_taken.true).1)
 
-pub returns-then-is_json_name : goal.returns-then-is_json_name
-returns-then-is_json_name c = taken (json_name (c.in_ok-is_json_name.ensures.0 c.if-is_json_name.true).1)
+pub returns-then-is_taken-2 : goal.returns-then-is_taken-2
+returns-then-is_taken-2 c = taken (json_name (c.is_taken-2.ensures.0 c.if-is_taken-2.true).1)
 
 pub returns : goal.returns
 returns c =
     options (not_taken c.args.self.text.now c.args.self.option.now
-    (fails c.in_ok-is_default.is_default _ c.in_ok-is_default.ensures c.if-is_default.false)
-    (fails c.in_ok-is_json_name.is_json_name _ c.in_ok-is_json_name.ensures c.if-is_json_name.false))
+    (fails c.is_taken.result _ c.is_taken.ensures c.if-is_taken.false)
+    (fails c.is_taken-2.result _ c.is_taken-2.ensures c.if-is_taken-2.false))

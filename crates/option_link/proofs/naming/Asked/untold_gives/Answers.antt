@@ -12,14 +12,14 @@ returns-then-is_as c =
     λ inner x. untold_acting self.files.names.now self.files.known.now self.file self.text.now self.option.now
     c.args.name.now inner x (c.is_as.ensures.0 c.if-is_as.true)
 
-pub returns-then-not-is_default : goal.returns-then-not-is_default
-returns-then-not-is_default c =
-    let not = fails c.in_ok-is_default-in-Some.is_default _ c.in_ok-is_default-in-Some.ensures
-    c.if-not-is_default.true in
+pub returns-then-not-is_taken : goal.returns-then-not-is_taken
+returns-then-not-is_taken c =
+    let not = fails c.is_taken.result _ c.is_taken.ensures
+    c.if-not-is_taken.true in
     untold (λ place taken. not (place, taken)) (fails c.is_as.result _ c.is_as.ensures c.if-is_as.false)
 
-pub returns-else-not-is_default : goal.returns-else-not-is_default
-returns-else-not-is_default c =
+pub returns-else-not-is_taken : goal.returns-else-not-is_taken
+returns-else-not-is_taken c =
     let self = c.args.self in
     let files = self.files.names.now in
     let known = self.files.known.now in
@@ -27,7 +27,7 @@ returns-else-not-is_default c =
     let option = self.option.now in
     let name = c.args.name.now in
     let place = c.in-Some.field in
-    let taken = c.in_ok-is_default-in-Some.ensures.0 c.if-not-is_default.false in
+    let taken = c.is_taken.ensures.0 c.if-not-is_taken.false in
     found_as c.field_given.result ((inner : Context) → IsDefaultGiven files known self.file place inner → ⊥)
     ((inner : Context) → LeadsUnnamed files known self.file text option name inside.Untold inner → ⊥)
     (IsDefaultGiven files known self.file place) (LeadsUnnamed files known self.file text option name inside.Untold)

@@ -4,7 +4,7 @@ use Rattle.option_link.specs.Contexts.{HasWords}
 use Rattle.option_link.proofs.TargetNameLemmas.{none_wordless}
 use Rattle.option_link.proofs.LoopLemmas.{some_of, none_of}
 use Rattle.option_link.proofs.WordLemmas.{now}
-use Rattle.option_link.proofs.naming.Asked.target.Goals as goal
+use Rattle.option_link.proofs.naming.Asked.target_of_words.Goals as goal
 
 pub target_by-requires-clause-words : goal.target_by-requires-clause-words
 target_by-requires-clause-words c =

@@ -14,9 +14,11 @@ pub mod OnlyLemmas
 pub mod SoughtLemmas
 pub mod OwnerLemmas
 pub mod ToldLemmas
+pub mod MarkLemmas
 pub mod PackageLemmas
 pub mod CountedLemmas
 pub mod LookupLemmas
+pub mod OuterLemmas
 pub mod JoinLemmas
 pub mod PathLemmas
 -- What fields give, what names name and what they are looked up in is one thing

@@ -2,6 +2,7 @@
 pub mod Places
 pub mod Fields
 pub mod Typed
+pub mod Marks
 pub mod Packages
 pub mod Tables
 pub mod Beside
@@ -10,6 +11,7 @@ pub mod Counted
 pub mod Linked
 -- what a name in an option is looked up in, and what it names
 pub mod Lookups
+pub mod Outer
 pub mod Contexts
 pub mod Messages
 -- what the options of a file name

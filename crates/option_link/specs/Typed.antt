@@ -1,7 +1,6 @@
 -- What is found step by step of fields and their types, for the code.
 use Rattle.std.specs.Prelude.{⊤, ◌≡◌, ◌≢◌, ℕ, Bool, Option, Some, None, Result, Ok, Err, List, Contains}
 use Rattle.std.specs.Prelude.{MatchOption, length}
-use Rattle.std.specs.HashSet.{HashSet}
 use Rattle.std.specs.List.{slice_get}
 use Rattle.proto_lex.specs.declared.span.Span.{Span}
 use Rattle.proto_decl.specs.Names.{IsAround}
@@ -24,6 +23,7 @@ use Rattle.option_link.specs.declared.table.Listed.{Listed}
 use Rattle.option_link.specs.declared.types.FoundType.{FoundType}
 use Rattle.option_link.specs.Places.{Stands, StandsAs}
 use Rattle.option_link.specs.Fields.{TypeAt}
+use Rattle.option_link.specs.Marks.{AreListedMarked}
 use Rattle.option_link.specs.Packages.{HasPackages}
 use Rattle.option_link.specs.Tables.{Lists, TellsOf}
 use Rattle.option_link.specs.Messages.{AreOptionsMessages}
@@ -60,12 +60,13 @@ abbrev pub AreTypesFound : List File → List FoundType → Type 0
 AreTypesFound files types = (one : FoundType) → Contains types one → IsTypeFound files one.file one.start one.found
 
 -- what the table of declarations has
-pub record IsTable {S : Type 0} (files : List File) (listed : List Listed) (types : List FoundType)
-    (present : List Bool) (packages : HashSet ℕ S) (messages : Option OptionMessages) : Type 0 where
+pub record IsTable (files : List File) (listed : List Listed) (types : List FoundType)
+    (present packages declared : List Bool) (messages : Option OptionMessages) : Type 0 where
   pub lists : Lists files listed
   pub found : AreTypesFound files types
   pub told : TellsOf (IsPresent files) (length files) present
   pub packaged : HasPackages files packages
+  pub marked : AreListedMarked listed declared
   pub kept : MatchOption messages ⊤ (AreOptionsMessages files)
 
 -- a message stands there

@@ -15,6 +15,8 @@ mod target;
 mod among;
 mod counted;
 mod lookup;
+mod marks;
+mod outer;
 mod owner;
 mod packages;
 mod paths;

@@ -1,6 +1,6 @@
 //! Names in scopes.
 
-ghost use Rattle.std.specs.Prelude.{ℕ, List, [], ◌∷◌, ◌≡◌, ◌<◌, ◌↔◌, false, Contains, IsTrue, IfOk, OnOk};
+ghost use Rattle.std.specs.Prelude.{ℕ, List, [], ◌∷◌, ◌≡◌, ◌<◌, ◌↔◌, false, Contains, IsTrue, IfOk};
 ghost use Rattle.std.specs.Prelude.{MatchOption, length, map};
 ghost use denote.Ref.{Bor};
 ghost use Rattle.std.specs.String.{string_bytes};
@@ -12,10 +12,11 @@ ghost use Rattle.option_link.specs.Contexts.{IsMessageNamed};
 ghost use Rattle.option_link.specs.Tables.{AreSeveral, IsPresentMessage, IsSought};
 ghost use Rattle.option_link.specs.Lookups.{LooksUp, admits, is_any, is_field};
 
+use crate::outer::OuterScope;
 use crate::place::{DeclaredPlace, is_same, push_if};
 use crate::sought::Sought;
 use crate::table::{DeclarationTable, is_a};
-use proto_decl::{DeclarationKind, FullName, scope_around};
+use proto_decl::{DeclarationKind, FullName};
 use proto_link::Role;
 use std::alloc::{AllocError, Global};
 
@@ -34,15 +35,23 @@ impl<'n, 'a, 't> DeclarationTable<'n, 'a, 't> {
         }
     }
 
-    /// The same: a name that nothing has is passed by its number alone.
-    fn is_known(&self, file: usize, name: &str, sought: Sought) -> bool
+    /// Whether a file knows a word in a scope as what is sought. A name that nothing has is passed by its number alone.
+    fn is_known_in(
+        &self,
+        alloc: Global,
+        file: usize,
+        scope: &OuterScope<'_>,
+        word: &str,
+        sought: Sought,
+    ) -> Result<bool, AllocError>
         requires { file < length self.now }
-        ensures { IsTrue result ↔ KnowsAs self.now file (admits sought) name.now }
+        ensures { IfOk result (λ is. IsTrue is ↔ KnowsAs self.now file (admits sought) (qualified scope.now word.now)) }
     {
-        if !self.may_be_known(name) {
-            return false;
+        if !self.may_be_known(scope.hash64_under(word)) {
+            return Ok(false);
         }
-        self.knows(file, name, sought)
+        let name = under(alloc, scope.name(), word)?;
+        Ok(self.knows(file, name.as_str(), sought))
     }
 
     /// Whether a file knows a name as that of a package, a message, an enum or a service.
@@ -130,7 +139,8 @@ impl<'n, 'a, 't> DeclarationTable<'n, 'a, 't> {
         Ok(messages)
     }
 
-    /// The first of the scopes from this one on in which a file knows a word as what is sought.
+    /// The first of the scopes from this one on in which a file knows a word as what is sought. They are looked at from
+    /// the root inwards, so that the number of each one's name goes on from that of the one around it.
     fn innermost<'s>(
         &self,
         alloc: Global,
@@ -144,17 +154,16 @@ impl<'n, 'a, 't> DeclarationTable<'n, 'a, 't> {
             (admits sought) word.now scope.now start → ⊥)
             (λ start. Innermost self.now file (admits sought) word.now scope.now start.now)) }
     {
-        let mut name = String::with_capacity(alloc, room_under(scope, word))?;
-        let mut next = Some(scope);
-        while let Some(inner) = next {
-            put_under(&mut name, inner, word)?;
-            let known = self.is_known(file, name.as_str(), sought);
+        let mut found = None;
+        let mut next = Some(OuterScope::root());
+        while let Some(outer) = next {
+            let known = self.is_known_in(alloc, file, &outer, word, sought)?;
             if known {
-                return Ok(Some(inner));
+                found = Some(outer.name());
             }
-            next = scope_around(inner);
+            next = outer.inner(scope);
         }
-        Ok(None)
+        Ok(found)
     }
 
     /// The full name of the field that these words name from a scope on, a dot in front of them or not.
@@ -252,23 +261,15 @@ pub(crate) fn under(alloc: Global, scope: &str, name: &str) -> Result<String, Al
     ensures { IfOk result (λ text. string_bytes text ≡ qualified scope.now name.now) }
 {
     let mut text = String::with_capacity(alloc, room_under(scope, name))?;
-    put_under(&mut text, scope, name)?;
-    Ok(text)
-}
-
-/// Writes the full name of a name in a scope over a text.
-fn put_under(text: &mut String, scope: &str, name: &str) -> Result<(), AllocError>
-    ensures { OnOk result (string_bytes text.new ≡ qualified scope.now name.now) }
-{
-    text.clear();
     if !scope.is_empty() {
         text.push_str(scope)?;
         text.push_str(".")?;
     }
-    text.push_str(name)
+    text.push_str(name)?;
+    Ok(text)
 }
 
-/// The bytes of the full name of a name in a scope, and no fewer than those of the same name in a scope around it.
+/// The bytes of the full name of a name in a scope.
 fn room_under(scope: &str, name: &str) -> usize {
     scope.len().saturating_add(name.len()).saturating_add(1)
 }

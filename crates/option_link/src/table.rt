@@ -12,21 +12,22 @@ ghost use Rattle.proto_visibility.specs.declared.clash.Duplicates.TheVariants.{K
 ghost use Rattle.proto_visibility.specs.Files.{HaveOrigins, HaveOwnPaths, IsPresent};
 ghost use Rattle.proto_visibility.specs.Knows.{KnowsAs, NameKind};
 ghost use Rattle.proto_visibility.specs.Linked.{HaveClearNames};
+ghost use Rattle.option_link.specs.Marks.{AreListedMarked};
 ghost use Rattle.option_link.specs.Places.{Stands};
 ghost use Rattle.option_link.specs.Messages.{AreOptionsMessages};
 ghost use Rattle.option_link.specs.Typed.{AreTypesFound, IsTypeFound};
 ghost use Rattle.option_link.specs.Tables.{Adds, AddsUpTo, AreNear, HasName, IsAlone, IsCompared, Lists};
 
 use crate::among::is_compared;
+use crate::marks::{is_marked, mark, no_marks};
 use crate::messages::OptionMessages;
-use crate::packages::package_numbers;
+use crate::packages::package_marks;
 use crate::place::{DeclaredPlace, is_same};
 use crate::present::present_files;
 use crate::types::{FoundType, type_among};
 use proto_decl::{Declaration, DeclarationKind, FullName};
 use proto_link::Linker;
 use std::alloc::{AllocError, Global};
-use std::collections::HashSet;
 use std::marker::Model;
 
 /// A declaration by its place, with the number that its full name is hashed by.
@@ -37,8 +38,8 @@ pub(crate) struct Listed {
 }
 
 /// All declarations of files that are linked and have facts, in order of those numbers; what some uses of types name,
-/// in order of place; for each file whether it isn't left out; the numbers that the names of packages are hashed by;
-/// and the messages of options.
+/// in order of place; for each file whether it isn't left out; marks of the numbers that the full names of packages
+/// are hashed by, and of those of declarations; and the messages of options.
 ///
 /// Contracts see the list of the files.
 #[derive(Drop)]
@@ -47,7 +48,8 @@ pub(crate) struct DeclarationTable<'n, 'a, 't> {
     listed: Vec<Listed>,
     types: Vec<FoundType>,
     present: Vec<bool>,
-    packages: HashSet<u64>,
+    packages: Vec<bool>,
+    declared: Vec<bool>,
     messages: Option<OptionMessages>,
 }
 
@@ -61,7 +63,7 @@ impl<'n, 'a, 't> Model for DeclarationTable<'n, 'a, 't> {
     ghost view = { λ table. table.linker.now };
 
     ghost invariant = { λ table. IsTable table.linker.now table.listed.items table.types.items
-        table.present.items table.packages table.messages };
+        table.present.items table.packages.items table.declared.items table.messages };
 }
 
 /// Adds the declarations of a file.
@@ -107,6 +109,17 @@ fn listed_of(alloc: Global, linker: &Linker<'_, '_>) -> Result<Vec<Listed>, Allo
     }
     listed.sort_by_key(|one| one.hash64)?;
     Ok(listed)
+}
+
+/// Marks of the numbers that the full names of what is listed are hashed by.
+fn listed_marks(alloc: Global, listed: &[Listed]) -> Result<Vec<bool>, AllocError>
+    ensures { IfOk result (λ marks. AreListedMarked listed.now marks.items) }
+{
+    let mut marks = no_marks(alloc)?;
+    for one in listed {
+        mark(&mut marks, one.hash64);
+    }
+    Ok(marks)
 }
 
 /// The declaration with a number.
@@ -166,13 +179,15 @@ impl<'n, 'a, 't> DeclarationTable<'n, 'a, 't> {
     {
         let listed = listed_of(alloc, linker)?;
         let present = present_files(alloc, linker)?;
-        let packages = package_numbers(alloc, linker)?;
+        let packages = package_marks(alloc, linker)?;
+        let declared = listed_marks(alloc, listed.as_slice())?;
         Ok(DeclarationTable {
             linker,
             listed,
             types: Vec::new(alloc),
             present,
             packages,
+            declared,
             messages: None,
         })
     }
@@ -257,17 +272,18 @@ impl<'n, 'a, 't> DeclarationTable<'n, 'a, 't> {
         near(self.listed.as_slice(), number)
     }
 
-    /// Whether something may have a full name: no file knows one that no declaration's and no package's name is hashed
-    /// by the same number as.
-    pub(crate) fn may_be_known(&self, name: &str) -> bool
-        ensures { result ≡ false → (file : ℕ) (admits : NameKind → Bool)
-            → KnowsAs self.now file admits name.now → ⊥ }
+    /// Whether something may have a full name that is hashed by a number: if not, no file knows such a name.
+    pub(crate) fn may_be_known(&self, number: u64) -> bool
+        ensures { result ≡ false → (name : List ℕ) → number ≡ hash64 name → (file : ℕ) (admits : NameKind → Bool)
+            → KnowsAs self.now file admits name → ⊥ }
     {
-        let number = FullName::whole(name).hash64();
-        if !self.near_by(number).is_empty() {
+        if is_marked(self.packages.as_slice(), number) {
             return true;
         }
-        self.packages.contains(&number)
+        if !is_marked(self.declared.as_slice(), number) {
+            return false;
+        }
+        !self.near_by(number).is_empty()
     }
 
     /// Whether what has a full name stands nowhere but at a place, in the files that those of the place's file are

@@ -10,8 +10,8 @@ pub loop-component-init : goal.loop-component-init
 loop-component-init c =
     let name : string_bytes c.in_ok-name.name ≡ c.args.first.now.name = c.in_ok-name.ensures.ok ∙ c.as_str.ensures in (
       name,
-      up_to_first c.args.first.now c.args.others.now c.args.numbers.now c.add_number.new.numbers
-          c.as_str-2.result.now (c.as_str-2.ensures.value ∙ name) c.in_ok-add_number.ensures,
+      up_to_first c.args.first.now c.args.others.now c.args.marks.now.items c.add_name.new.marks.items
+          c.as_str-2.result.now (c.as_str-2.ensures.value ∙ name) c.add_name.ensures,
     )
 
 pub loop-component-preserved : goal.loop-component-preserved
@@ -32,12 +32,12 @@ loop-component-preserved c =
     let is : new ≡ dotted (map (λ (k : Component). k.name) (first ∷ take (index + 1) others)) =
     joined_more first x others index old new within c.component-item.is c.loop-component.invariant.0 named in (
       is,
-      up_to_more first others index c.args.numbers.now c.loop-component.numbers
-          c.add_number-in-loop-component.new.numbers c.as_str-in-loop-component-2.result.now (c.as_str-in-loop-component-2.ensures.value ∙ is)
-          c.in_ok-add_number-2.ensures c.loop-component.invariant.1,
+      up_to_more first others index c.args.marks.now.items c.loop-component.marks.items
+          c.add_name-in-loop-component.new.marks.items c.as_str-in-loop-component-2.result.now (c.as_str-in-loop-component-2.ensures.value ∙ is)
+          c.add_name-in-loop-component.ensures c.loop-component.invariant.1,
     )
 
 pub returns : goal.returns
 returns c =
-    up_to_all c.args.first.now c.args.others.now c.loop-component.component-index c.args.numbers.now
-    c.loop-component.numbers (omega arith) c.loop-component.invariant.1
+    up_to_all c.args.first.now c.args.others.now c.loop-component.component-index c.args.marks.now.items
+    c.loop-component.marks.items (omega arith) c.loop-component.invariant.1

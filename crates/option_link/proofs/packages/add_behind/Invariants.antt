@@ -8,4 +8,4 @@ use Rattle.option_link.proofs.packages.add_behind.Given as goal
 abbrev pub invariant-loop-component : goal.invariant-loop-component
 invariant-loop-component l =
     (string_bytes l.name ≡ dotted (map (λ (c : Component). c.name) (l.first ∷ take l.component-index l.others)))
-    × AddsUpTo l.first l.others l.component-index l.fn.numbers l.numbers
+    × AddsUpTo l.first l.others l.component-index l.fn.marks.items l.marks.items

@@ -1,32 +1,26 @@
-use Rattle.std.proofs.Common.{List, ℕ, Option, sym, ◌∙◌, subst}
+use Rattle.std.proofs.Common.{ℕ, List, Option, sym, ◌∙◌, subst}
 use Rattle.std.proofs.lemmas.Bool.{false≢true}
 use denote.Ref.{Bor}
-use Rattle.proto_visibility.specs.Knows.{KnowsAs}
 use Rattle.option_link.specs.Lookups.{admits}
-use Rattle.proto_link.specs.Resolves.Innermost.{here}
-use Rattle.proto_link.proofs.LookupLemmas.{StandsFor, stands_next}
+use Rattle.option_link.proofs.OuterLemmas.{Answers, GoesOn, goes_on, known_here, known_outside}
 use Rattle.option_link.proofs.table.DeclarationTable.innermost.Goals as goal
-
-pub returns-then-known : goal.returns-then-known
-returns-then-known c =
-    let files = c.args.self.now in
-    let file = c.args.file in
-    let role = admits c.args.sought in
-    let so_far = subst (λ (n : Option (Bor (List ℕ))). StandsFor files file role c.args.word.now n c.args.scope.now)
-    c.in-Some.is c.loop-next.invariant in
-    let named = c.as_str.ensures.value ∙ c.in_ok-put_under.ensures in
-    (so_far c.in-Some.inner.now).0
-    (here (subst (KnowsAs files file role) named (c.is_known-known.ensures.0 c.if-known.true)))
+use Rattle.option_link.proofs.table.DeclarationTable.innermost.Goals.{then-known, else-known}
 
 pub loop-next-preserved : goal.loop-next-preserved
 loop-next-preserved c =
     let files = c.args.self.now in
     let file = c.args.file in
     let role = admits c.args.sought in
-    let so_far = subst (λ (n : Option (Bor (List ℕ))). StandsFor files file role c.args.word.now n c.args.scope.now)
-    c.in-Some.is c.loop-next.invariant in
-    let named = c.as_str.ensures.value ∙ c.in_ok-put_under.ensures in
-    stands_next files file role c.args.word.now c.args.scope.now c.in-Some.inner.now c.scope_around-next.result
-    (λ known. false≢true (sym c.if-known.false
-    ∙ c.is_known-known.ensures.1 (subst (KnowsAs files file role) (sym named) known)))
-    c.scope_around-next.ensures.around so_far
+    let word = c.args.word.now in
+    let scope = c.args.scope.now in
+    let outer = c.in-Some.outer in
+    let so_far = subst (λ (n : Option (List ℕ)). GoesOn files file role word c.loop-next.found n scope) c.in-Some.is
+    c.loop-next.invariant in
+    goes_on files file role word c.if-known.found c.inner-next.result outer scope c.inner-next.ensures
+    (elim c.if-known.branch [
+      | then-known w ↦ subst (λ (f : Option (Bor (List ℕ))). Answers files file role word f outer) (sym w.found-is)
+          (known_here files file role word outer w.name.result w.name.ensures (c.in_ok-known.ensures.0 w.if-known.true))
+      | else-known w ↦ subst (λ (f : Option (Bor (List ℕ))). Answers files file role word f outer) (sym w.found-is)
+          (known_outside files file role word outer c.loop-next.found
+          (λ known. false≢true (sym w.if-known.false ∙ c.in_ok-known.ensures.1 known)) so_far.1)
+    ])

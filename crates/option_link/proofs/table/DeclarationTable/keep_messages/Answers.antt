@@ -9,5 +9,6 @@ invariant_of-self c = record {
   found = c.self.invariant.found;
   told = c.self.invariant.told;
   packaged = c.self.invariant.packaged;
+  marked = c.self.invariant.marked;
   kept = subst (λ (fs : List File). AreOptionsMessages fs c.args.messages) (sym c.self.view_is) c.requires;
 }

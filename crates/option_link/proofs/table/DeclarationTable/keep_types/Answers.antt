@@ -9,5 +9,6 @@ invariant_of-self c = record {
   found = subst (λ (fs : List File). AreTypesFound fs c.args.types.items) (sym c.self.view_is) c.requires;
   told = c.self.invariant.told;
   packaged = c.self.invariant.packaged;
+  marked = c.self.invariant.marked;
   kept = c.self.invariant.kept;
 }

@@ -28,10 +28,10 @@ use Rattle.option_link.specs.Contexts.{HasWords, IsMessageNamed, MayBeExtended, 
 use Rattle.option_link.specs.Contexts.LookedUpFrom.{part, in_braces as from_braces}
 use Rattle.option_link.specs.Contexts.MayBeExtended.{options as extended-options, message as extended-message}
 use Rattle.option_link.specs.Contexts.NamesAs.{extension as names-extension}
-use Rattle.option_link.specs.Tables.{IsClear, IsOnly, IsOwned}
+use Rattle.option_link.specs.Tables.{IsClear, IsOnly, IsOwned, LooksFor}
 use Rattle.option_link.specs.Found.{IsExtendedName, IsExtensionFrom, IsExtensionNamed, IsScope, in_braces}
-use Rattle.option_link.proofs.NameLemmas.{looked_up, same_words}
-use Rattle.option_link.proofs.OnlyLemmas.{one_only, owned_kind, stands_only}
+use Rattle.option_link.proofs.NameLemmas.{looked_for, looks_up, one_looked_for, same_words}
+use Rattle.option_link.proofs.OnlyLemmas.{one_only, owned_kind, owned_known, stands_only}
 use Rattle.option_link.proofs.PlaceLemmas.{same_declaration}
 
 field_kind : (kind : DeclarationKind) → is_field (OfDeclaration kind) ≡ true → kind ≡ Field
@@ -183,15 +183,20 @@ module _ (files : List File) (known : List OptionFacts) (file : ℕ) (text : Lis
 
 module _ (files : List File) (known : List OptionFacts) (file : ℕ) (option : FileOption) (context : Context)
     (has_dot : Bool) (words : List (List ℕ)) (scope full : List ℕ)
-    (found : LooksUp files file has_dot words scope full) where
+    (found : LooksFor files file has_dot words scope full) where
   pub named_from : (field : DeclaredPlace) → IsExtensionFrom files known file option context has_dot words scope field
       → IsExtensionNamed files known file option context full field
   named_from field x =
-      subst (λ (n : List ℕ). IsExtensionNamed files known file option context n field) (looked_up x.found found) x.named
+      subst (λ (n : List ℕ). IsExtensionNamed files known file option context n field)
+      (one_looked_for (looked_for x.found) found) x.named
 
   pub from_named : (field : DeclaredPlace) → IsExtensionNamed files known file option context full field
       → IsExtensionFrom files known file option context has_dot words scope field
-  from_named field named = record { full_name = full; found = found; named = named }
+  from_named field named = record {
+    full_name = full;
+    found = looks_up found (owned_known files file is_field refl full field named.owned);
+    named = named;
+  }
 
 module _ (files : List File) (known : List OptionFacts) (file : ℕ) (option : FileOption) (context : Context)
     (full : List ℕ) (field : DeclaredPlace) (owned : IsOwned files file is_field full field) where

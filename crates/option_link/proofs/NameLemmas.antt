@@ -11,7 +11,7 @@ use Rattle.proto_options.specs.declared.names.OptionRole.{OptionRole}
 use Rattle.proto_options.specs.declared.names.OptionRole.TheVariants as role
 use Rattle.proto_options.specs.declared.options.FileOption.{FileOption}
 use Rattle.proto_visibility.specs.Files.{File, HasPathAt, HaveOwnPaths}
-use Rattle.proto_visibility.specs.Knows.{NameKind, IsOwner, SeesGiving, is_message}
+use Rattle.proto_visibility.specs.Knows.{NameKind, KnowsAs, IsOwner, SeesGiving, is_message}
 use Rattle.proto_link.proofs.LawLemmas.{one_scope}
 use Rattle.option_link.specs.declared.contexts.Context.{Context}
 use Rattle.option_link.specs.declared.contexts.Context.TheVariants as inside
@@ -20,7 +20,9 @@ use Rattle.option_link.specs.declared.place.DeclaredPlace.{DeclaredPlace}
 use Rattle.option_link.specs.Places.{Stands}
 use Rattle.option_link.specs.Fields.{IsMember, behind}
 use Rattle.option_link.specs.Lookups.{LooksUp, is_field}
-use Rattle.option_link.specs.Lookups.LooksUp.{absolute, single, compound}
+use Rattle.option_link.specs.Lookups.LooksUp.{absolute as up-absolute, single as up-single, compound as up-compound}
+use Rattle.option_link.specs.Tables.{LooksFor}
+use Rattle.option_link.specs.Tables.LooksFor.{absolute, single, compound}
 use Rattle.option_link.specs.Contexts.{HasWords, IsOptionsMessage, HasFieldsOf, MayBeExtended, LookedUpFrom}
 use Rattle.option_link.specs.Contexts.{NamesAs, descriptor_path, options_message}
 use Rattle.option_link.specs.Contexts.IsOptionsMessage.{by_path, only}
@@ -44,11 +46,26 @@ pub one_word : (text : List ℕ) (name : OptionName) (x y : List ℕ) → HasWor
     → HasWords text name (y ∷ []) → x ≡ y
 one_word text name x y p q = same_word x y (same_words text name (x ∷ []) (y ∷ []) p q)
 
-pub looked_up : {files : List File} {file : ℕ} {has_dot : Bool} {words : List (List ℕ)} {from a b : List ℕ}
-    → LooksUp files file has_dot words from a → LooksUp files file has_dot words from b → a ≡ b
-looked_up (absolute k) (absolute l) = refl
-looked_up (single {word = word} m k) (single n l) = ap (λ scope. qualified scope word) (one_scope m n)
-looked_up (compound {first = first} {second = second} {others = others} m k) (compound n l) =
+-- what is looked up is what is looked for, and known as a field
+
+pub looked_for : {files : List File} {file : ℕ} {has_dot : Bool} {words : List (List ℕ)} {from name : List ℕ}
+    → LooksUp files file has_dot words from name → LooksFor files file has_dot words from name
+looked_for (up-absolute known) = absolute
+looked_for (up-single innermost known) = single innermost
+looked_for (up-compound innermost known) = compound innermost
+
+pub looks_up : {files : List File} {file : ℕ} {has_dot : Bool} {words : List (List ℕ)} {from name : List ℕ}
+    → LooksFor files file has_dot words from name → KnowsAs files file is_field name
+    → LooksUp files file has_dot words from name
+looks_up absolute known = up-absolute known
+looks_up (single innermost) known = up-single innermost known
+looks_up (compound innermost) known = up-compound innermost known
+
+pub one_looked_for : {files : List File} {file : ℕ} {has_dot : Bool} {words : List (List ℕ)} {from a b : List ℕ}
+    → LooksFor files file has_dot words from a → LooksFor files file has_dot words from b → a ≡ b
+one_looked_for absolute absolute = refl
+one_looked_for (single {word = word} m) (single n) = ap (λ scope. qualified scope word) (one_scope m n)
+one_looked_for (compound {first = first} {second = second} {others = others} m) (compound n) =
     ap (λ scope. qualified scope (dotted (first ∷ (second ∷ others)))) (one_scope m n)
 
 field_or_message : Field ≡ Message → ⊥
@@ -159,7 +176,7 @@ module _ (files : List File) (paths : HaveOwnPaths files) where
         let start = one_from option number context m n f h may can from its in
         let moved = subst (λ (scope : List ℕ). LooksUp files file dot w scope g) start
         (subst (λ (ws : List (List ℕ)). LooksUp files file dot ws f g) words up) in
-        let full = looked_up moved found in
+        let full = one_looked_for (looked_for moved) (looked_for found) in
         one_place files Field Field a b d e stands there
         (same_owner files file is_field g k a.file b.file full owns also) (is ∙ (full ∙ sym named))
     one_named _ _ a b

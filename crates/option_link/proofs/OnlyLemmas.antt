@@ -3,12 +3,12 @@ use Rattle.std.proofs.Common.{◌≡◌, ℕ, Bool, true, false, List, refl, ap,
 use Rattle.proto_decl.specs.declared.declaration.Declaration.{Declaration}
 use Rattle.proto_decl.specs.declared.declaration.DeclarationKind.{DeclarationKind}
 use Rattle.proto_visibility.specs.Files.{File}
-use Rattle.proto_visibility.specs.Knows.{NameKind}
+use Rattle.proto_visibility.specs.Knows.{NameKind, KnowsAs}
 use Rattle.proto_visibility.specs.Knows.NameKind.{OfPackage, OfDeclaration}
 use Rattle.option_link.specs.declared.place.DeclaredPlace.{DeclaredPlace}
 use Rattle.option_link.specs.Places.{Stands, StandsAs, place_at}
 use Rattle.option_link.specs.Tables.{HasName, IsOnly, IsOwned, IsSought}
-use Rattle.option_link.proofs.KnownLemmas.{sought_giving}
+use Rattle.option_link.proofs.KnownLemmas.{known_sought, sought_giving}
 use Rattle.option_link.proofs.PlaceLemmas.{one_DeclaredPlace}
 
 -- ---- alone, and of a kind
@@ -88,3 +88,9 @@ module _ (files : List File) (file : ℕ) (admits : NameKind → Bool) (typed : 
             sought.at.admitted,
             sought.named,
           )
+
+  -- and known to the file as such
+  pub owned_known : (place : DeclaredPlace) → IsOwned files file admits name place → KnowsAs files file admits name
+  owned_known place owned =
+      let found = sought_giving files file admits typed name place.file owned.owner.gives in
+      known_sought files file admits name found.0 found.1

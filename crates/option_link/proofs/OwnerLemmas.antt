@@ -1,6 +1,6 @@
 -- What has a name, and of which file what is sought is, by what is near the name.
-use Rattle.std.proofs.Common.{◌≡◌, ◌↔◌, ◌⊎◌, inl, inr, ℕ, Bool, true, false, List, [], IsTrue}
-use Rattle.std.proofs.Common.{refl, ap, sym, ◌∙◌, subst}
+use Rattle.std.proofs.Common.{◌≡◌, ◌↔◌, ◌⊎◌, inl, inr, ℕ, Bool, true, false, List, [], ◌∷◌, length, get_or, IsTrue}
+use Rattle.std.proofs.Common.{refl, ap, sym, ◌∙◌, subst, arith}
 use Rattle.std.specs.List.{Contains}
 use Rattle.basics.proofs.ListLemmas.{in_nothing}
 use Rattle.proto_decl.specs.declared.declaration.Declaration.{Declaration}
@@ -12,7 +12,7 @@ use Rattle.option_link.specs.declared.table.Listed.{Listed}
 use Rattle.option_link.specs.Places.{place_at}
 use Rattle.option_link.specs.Tables.{AreNear, HasName, IsAlone, IsOnly, IsOwned, IsSought, IsSoughtAt}
 use Rattle.option_link.proofs.KnownLemmas.{giving_sought, sought_giving}
-use Rattle.option_link.proofs.LoopLemmas.{iff_as}
+use Rattle.option_link.proofs.LoopLemmas.{iff_as, all_of, one_more, none_yet}
 use Rattle.option_link.proofs.PlaceLemmas.{one_DeclaredPlace, same_declaration}
 
 -- what is read behind the end of a list
@@ -63,6 +63,34 @@ pub none_only : (files : List File) (name : List ℕ) (file : ℕ)
     → ((place : DeclaredPlace) → HasName files name place → place.file ≡ file → ⊥) → (place : DeclaredPlace)
     → IsOnly files file name place → ⊥
 none_only files name file none place only = none place only.has only.in_file
+
+-- ---- where but one place is near
+
+pub alone_near : (files : List File) (name : List ℕ) (listed : List Listed) (d : Listed) → length listed ≡ 1
+    → AreNear files name listed → (place : DeclaredPlace) → HasName files name place
+    → place ≡ (get_or listed 0 d).place
+alone_near files name [] d size near = absurd (omega (arith, size))
+alone_near files name (one ∷ []) d size near = each_near files name (one ∷ []) near (λ p. p ≡ one.place)
+    (all_of Same (one ∷ []) 1 (omega arith) (one_more Same (one ∷ []) 0 one refl refl (none_yet Same (one ∷ []))))
+  where
+    Same : Listed → Type 0
+    Same x = x.place ≡ one.place
+alone_near files name (one ∷ (two ∷ more)) d size near = absurd (omega (arith, size))
+
+module _ (files : List File) (name : List ℕ) (place : DeclaredPlace)
+    (near : (other : DeclaredPlace) → HasName files name other → other ≡ place) (file : ℕ) where
+  pub only_there : (place.file ≡ file) × HasName files name place → IsOnly files file name place
+  only_there is = record {
+    in_file = is.0;
+    has = is.1;
+    alone = λ other its. ap (λ (p : DeclaredPlace). p.index) (near (place_at file other) its);
+  }
+
+  pub not_there_only : ((place.file ≡ file) × HasName files name place → ⊥) → (one : DeclaredPlace)
+      → IsOnly files file name one → ⊥
+  not_there_only not one only =
+      let same : one ≡ place = near one only.has in
+      not (ap (λ (p : DeclaredPlace). p.file) (sym same) ∙ only.in_file, subst (HasName files name) same only.has)
 
 -- ---- what is sought
 
@@ -144,3 +172,26 @@ module _ (files : List File) (file : ℕ) (admits : NameKind → Bool) (typed : 
   owned_out owner is place owned =
       let same : place.file ≡ owner = is.alone place.file owned.owner.gives in
       subst (λ (n : ℕ). IsOnly files n name place) same owned.only
+
+  -- where but one place may have the name
+
+  module _ (place : DeclaredPlace) (near : (other : DeclaredPlace) → HasName files name other → other ≡ place) where
+    sought_near : (other : DeclaredPlace) → IsSought files file admits name other → other ≡ place
+    sought_near other sought = near other (sought_has files file admits name other sought)
+
+    pub not_sought : (IsSought files file admits name place → ⊥) → (one : DeclaredPlace)
+        → IsOwned files file admits name one → ⊥
+    not_sought not one owned =
+        none_owner (λ other sought. not (subst (IsSought files file admits name) (sought_near other sought) sought))
+        one.file owned.owner
+
+    module _ (at : IsSought files file admits name place) where
+      pub left_out : (IsPresent files place.file → ⊥) → (one : DeclaredPlace) → IsOwned files file admits name one → ⊥
+      left_out not one owned = not_there place at not one.file owned.owner
+
+      pub owned_there : IsPresent files place.file → IsOwned files file admits name place
+      owned_there present = record {
+        owner = owner_here place at (λ other sought. ap (λ (p : DeclaredPlace). p.file) (sought_near other sought))
+            present;
+        only = only_there files name place near place.file (refl, sought_has files file admits name place at);
+      }

@@ -1,10 +1,10 @@
 -- The table in which declarations are looked for, and what is found there.
-use Rattle.std.specs.Prelude.{⊤, ◌≡◌, ◌<◌, ◌↔◌, ◌⊎◌, ℕ, Bool, true, IsTrue, Option, Some, MatchOption}
-use Rattle.std.specs.Prelude.{List, ◌∷◌, Contains, length}
+use Rattle.std.specs.Prelude.{⊤, ◌≡◌, ◌<◌, ◌↔◌, ◌⊎◌, ℕ, Bool, true, false, IsTrue, Option, Some, MatchOption}
+use Rattle.std.specs.Prelude.{List, [], ◌∷◌, Contains, length}
 use Rattle.std.specs.Borrow.{Bor}
 use Rattle.std.specs.List.{slice_get}
 use Rattle.std.specs.List.Sorted.{IsNonDecreasingBy}
-use Rattle.proto_decl.specs.Names.{hash64}
+use Rattle.proto_decl.specs.Names.{qualified, dotted, hash64}
 use Rattle.proto_decl.specs.Imports.{start_of}
 use Rattle.proto_decl.specs.Facts.{Facts, component_spans}
 use Rattle.proto_decl.specs.declared.declaration.Declaration.{Declaration}
@@ -12,14 +12,16 @@ use Rattle.proto_decl.specs.declared.declaration.DeclarationKind.TheVariants.{Me
 use Rattle.proto_decl.specs.declared.uses.Use.{Use}
 use Rattle.proto_options.specs.declared.fields.FieldFact.{FieldFact}
 use Rattle.proto_visibility.specs.Files.{File, HasFacts, IsPresent}
-use Rattle.proto_visibility.specs.Knows.{NameKind, IsOwner}
+use Rattle.proto_visibility.specs.Knows.{NameKind, IsOwner, is_aggregate}
 use Rattle.proto_visibility.specs.Knows.NameKind.{OfDeclaration}
 use Rattle.proto_visibility.specs.Sees.{Sees}
+use Rattle.proto_link.specs.Resolves.{Innermost}
 use Rattle.option_link.specs.declared.contexts.Context.{Context}
 use Rattle.option_link.specs.declared.contexts.Context.TheVariants as inside
 use Rattle.option_link.specs.declared.place.DeclaredPlace.{DeclaredPlace}
 use Rattle.option_link.specs.declared.table.Listed.{Listed}
 use Rattle.option_link.specs.Places.{Stands, StandsAs, place_at}
+use Rattle.option_link.specs.Lookups.{is_any}
 
 -- a declaration of a file, as it is listed
 abbrev pub listed_at : DeclaredPlace → Declaration → Listed
@@ -124,6 +126,19 @@ pub record IsPresentMessage (files : List File) (place : DeclaredPlace) : Type 0
 -- more words than one, of which this is the first
 abbrev pub AreSeveral : (first : List ℕ) → (words : List (List ℕ)) → Type 0
 AreSeveral first words = (second : List ℕ) × (others : List (List ℕ)) × (words ≡ first ∷ (second ∷ others))
+
+-- By its words, whether a dot leads, and the scope from which a name in parentheses or in brackets is looked up: the
+-- only full name that it may have, be that known as a field or not.
+pub data LooksFor (files : List File) (file : ℕ)
+    : (has_dot : Bool) → (words : List (List ℕ)) → (from name : List ℕ) → Type 0 where
+  absolute : {words : List (List ℕ)} {from : List ℕ} → LooksFor files file true words from (dotted words)
+  single : {word scope from : List ℕ}
+      → Innermost files file is_any word from scope
+      → LooksFor files file false (word ∷ []) from (qualified scope word)
+  compound : {first second scope from : List ℕ} {others : List (List ℕ)}
+      → Innermost files file is_aggregate first from scope
+      → LooksFor files file false (first ∷ (second ∷ others)) from
+      (qualified scope (dotted (first ∷ (second ∷ others))))
 
 -- the use of a file whose first component starts here
 pub record IsUseAt (files : List File) (file start : ℕ) (type_use : Use) : Type 0 where

@@ -127,11 +127,7 @@ impl<'k, 'n, 'a, 't> Asked<'k, 'n, 'a, 't> {
             (IsExtensionNamed self.entry.files.names.now self.entry.files.known.now self.entry.file
             self.entry.option.now context full_name.now)) }
     {
-        let found = self
-            .files
-            .names
-            .owned(alloc, self.file, full_name, Sought::AField)?;
-        match found {
+        match self.files.names.owned(self.file, full_name, Sought::AField) {
             Some(field) => self.if_extends(alloc, field, full_name, context),
             None => Ok(None),
         }

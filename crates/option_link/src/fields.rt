@@ -119,7 +119,7 @@ impl<'k, 'n, 'a, 't> KnownFiles<'k, 'n, 'a, 't> {
         match named_by(answer)? {
             Some(target) => {
                 let sought = sought_by(type_use.is_extended);
-                self.names.owned(alloc, file, target.name.as_str(), sought)
+                Ok(self.names.owned(file, target.name.as_str(), sought))
             }
             None => Ok(None),
         }
@@ -229,7 +229,7 @@ impl<'k, 'n, 'a, 't> KnownFiles<'k, 'n, 'a, 't> {
                     return Ok(None);
                 }
                 let name = declared.full_name().to_text(alloc)?;
-                let only = self.names.only_in(alloc, place.file, name.as_str())?;
+                let only = self.names.only_in(place.file, name.as_str());
                 Ok(if_same(only, place))
             }
             None => Ok(None),
@@ -334,27 +334,19 @@ impl<'k, 'n, 'a, 't> KnownFiles<'k, 'n, 'a, 't> {
                 let found = self.type_at(alloc, field.file, start)?;
                 Ok(self.if_message(found))
             }
-            None => self.message_around(alloc, field.file, full_name),
+            None => Ok(self.message_around(field.file, full_name)),
         }
     }
 
     /// The message of a file around a full name.
-    fn message_around(
-        self,
-        alloc: Global,
-        file: usize,
-        full_name: &str,
-    ) -> Result<Option<DeclaredPlace>, AllocError>
-        ensures { IfOk result (λ found. MatchOption found
+    fn message_around(self, file: usize, full_name: &str) -> Option<DeclaredPlace>
+        ensures { MatchOption result
             ((message : DeclaredPlace) → IsAroundIn self.entry.names.now file full_name.now message → ⊥)
-            (IsAroundIn self.entry.names.now file full_name.now)) }
+            (IsAroundIn self.entry.names.now file full_name.now) }
     {
         match scope_around(full_name) {
-            Some(scope) => {
-                let found = self.names.only_in(alloc, file, scope)?;
-                Ok(self.if_message(found))
-            }
-            None => Ok(None),
+            Some(scope) => self.if_message(self.names.only_in(file, scope)),
+            None => None,
         }
     }
 

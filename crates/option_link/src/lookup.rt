@@ -1,6 +1,6 @@
 //! Names in scopes.
 
-ghost use Rattle.std.specs.Prelude.{ℕ, List, [], ◌∷◌, ◌≡◌, ◌<◌, ◌↔◌, false, Contains, IsTrue, IfOk};
+ghost use Rattle.std.specs.Prelude.{ℕ, List, [], ◌∷◌, ◌≡◌, ◌<◌, ◌↔◌, false, Contains, IsTrue, IfOk, OnOk};
 ghost use Rattle.std.specs.Prelude.{MatchOption, length, map};
 ghost use denote.Ref.{Bor};
 ghost use Rattle.std.specs.String.{string_bytes};
@@ -9,8 +9,8 @@ ghost use Rattle.proto_decl.specs.Names.{qualified, dotted};
 ghost use Rattle.proto_visibility.specs.Knows.{KnowsAs, is_aggregate};
 ghost use Rattle.option_link.specs.declared.place.DeclaredPlace.{DeclaredPlace};
 ghost use Rattle.option_link.specs.Contexts.{IsMessageNamed};
-ghost use Rattle.option_link.specs.Tables.{AreSeveral, IsPresentMessage, IsSought};
-ghost use Rattle.option_link.specs.Lookups.{LooksUp, admits, is_any, is_field};
+ghost use Rattle.option_link.specs.Tables.{AreSeveral, IsPresentMessage, IsSought, LooksFor};
+ghost use Rattle.option_link.specs.Lookups.{admits, is_any};
 
 use crate::outer::OuterScope;
 use crate::place::{DeclaredPlace, is_same, push_if};
@@ -87,22 +87,17 @@ impl<'n, 'a, 't> DeclarationTable<'n, 'a, 't> {
 
     /// Whether a message with this full name is declared at a place, which no other declaration of its file has, and
     /// the file isn't left out.
-    pub(crate) fn is_message_named(
-        &self,
-        alloc: Global,
-        place: DeclaredPlace,
-        name: &str,
-    ) -> Result<bool, AllocError>
-        ensures { IfOk result (λ is. IsTrue is ↔ IsMessageNamed self.now name.now place) }
+    fn is_message_named(&self, place: DeclaredPlace, name: &str) -> bool
+        ensures { IsTrue result ↔ IsMessageNamed self.now name.now place }
     {
-        match self.only_in(alloc, place.file, name)? {
+        match self.only_in(place.file, name) {
             Some(only) => {
                 if !is_same(only, place) {
-                    return Ok(false);
+                    return false;
                 }
-                Ok(self.is_present_message(place))
+                self.is_present_message(place)
             }
-            None => Ok(false),
+            None => false,
         }
     }
 
@@ -133,7 +128,7 @@ impl<'n, 'a, 't> DeclarationTable<'n, 'a, 't> {
         let listed = self.near(&FullName::whole(name));
         let mut messages = Vec::new(alloc);
         for one in listed {
-            let is = self.is_message_named(alloc, one.place, name)?;
+            let is = self.is_message_named(one.place, name);
             push_if(&mut messages, one.place, is)?;
         }
         Ok(messages)
@@ -166,7 +161,7 @@ impl<'n, 'a, 't> DeclarationTable<'n, 'a, 't> {
         Ok(found)
     }
 
-    /// The full name of the field that these words name from a scope on, a dot in front of them or not.
+    /// The only full name that a field may have that these words name from a scope on, a dot in front of them or not.
     pub(crate) fn full_name_of(
         &self,
         alloc: Global,
@@ -176,14 +171,14 @@ impl<'n, 'a, 't> DeclarationTable<'n, 'a, 't> {
         scope: &str,
     ) -> Result<Option<String>, AllocError>
         requires { file < length self.now }
-        ensures { IfOk result (λ found. MatchOption found ((name : List ℕ) → LooksUp self.now file has_dot
+        ensures { IfOk result (λ found. MatchOption found ((name : List ℕ) → LooksFor self.now file has_dot
             (map (λ (word : Bor (List ℕ)). word.now) words.now) scope.now name → ⊥)
-            (λ name. LooksUp self.now file has_dot (map (λ (word : Bor (List ℕ)). word.now) words.now)
+            (λ name. LooksFor self.now file has_dot (map (λ (word : Bor (List ℕ)). word.now) words.now)
             scope.now (string_bytes name))) }
     {
         if has_dot {
             let name = joined(alloc, words)?;
-            return Ok(self.if_field(file, name));
+            return Ok(Some(name));
         }
         match words {
             [] => Ok(None),
@@ -201,14 +196,14 @@ impl<'n, 'a, 't> DeclarationTable<'n, 'a, 't> {
         scope: &str,
     ) -> Result<Option<String>, AllocError>
         requires { file < length self.now }
-        ensures { IfOk result (λ found. MatchOption found ((name : List ℕ) → LooksUp self.now file false
+        ensures { IfOk result (λ found. MatchOption found ((name : List ℕ) → LooksFor self.now file false
             (word.now ∷ []) scope.now name → ⊥)
-            (λ name. LooksUp self.now file false (word.now ∷ []) scope.now (string_bytes name))) }
+            (λ name. LooksFor self.now file false (word.now ∷ []) scope.now (string_bytes name))) }
     {
         match self.innermost(alloc, file, scope, word, Sought::Anything)? {
             Some(start) => {
                 let name = under(alloc, start, word)?;
-                Ok(self.if_field(file, name))
+                Ok(Some(name))
             }
             None => Ok(None),
         }
@@ -225,34 +220,18 @@ impl<'n, 'a, 't> DeclarationTable<'n, 'a, 't> {
     ) -> Result<Option<String>, AllocError>
         requires file { file < length self.now }
         requires words { AreSeveral first.now (map (λ (word : Bor (List ℕ)). word.now) words.now) }
-        ensures { IfOk result (λ found. MatchOption found ((name : List ℕ) → LooksUp self.now file false
+        ensures { IfOk result (λ found. MatchOption found ((name : List ℕ) → LooksFor self.now file false
             (map (λ (word : Bor (List ℕ)). word.now) words.now) scope.now name → ⊥)
-            (λ name. LooksUp self.now file false (map (λ (word : Bor (List ℕ)). word.now) words.now)
+            (λ name. LooksFor self.now file false (map (λ (word : Bor (List ℕ)). word.now) words.now)
             scope.now (string_bytes name))) }
     {
         match self.innermost(alloc, file, scope, first, Sought::AnAggregate)? {
             Some(start) => {
-                let name = joined(alloc, words)?;
-                let full_name = under(alloc, start, name.as_str())?;
-                Ok(self.if_field(file, full_name))
+                let name = joined_under(alloc, start, words)?;
+                Ok(Some(name))
             }
             None => Ok(None),
         }
-    }
-
-    /// A full name, if the file knows it as a field.
-    fn if_field(&self, file: usize, name: String) -> Option<String>
-        requires { file < length self.now }
-        ensures { MatchOption result
-            (KnowsAs self.now file is_field (string_bytes name) → ⊥)
-            (λ text. (string_bytes text ≡ string_bytes name)
-            × KnowsAs self.now file is_field (string_bytes name)) }
-    {
-        let known = self.knows(file, name.as_str(), Sought::AField);
-        if !known {
-            return None;
-        }
-        Some(name)
     }
 }
 
@@ -261,12 +240,20 @@ pub(crate) fn under(alloc: Global, scope: &str, name: &str) -> Result<String, Al
     ensures { IfOk result (λ text. string_bytes text ≡ qualified scope.now name.now) }
 {
     let mut text = String::with_capacity(alloc, room_under(scope, name))?;
+    put_under(&mut text, scope, name)?;
+    Ok(text)
+}
+
+/// Writes the full name of a name in a scope over a text.
+fn put_under(text: &mut String, scope: &str, name: &str) -> Result<(), AllocError>
+    ensures { OnOk result (string_bytes text.new ≡ qualified scope.now name.now) }
+{
+    text.clear();
     if !scope.is_empty() {
         text.push_str(scope)?;
         text.push_str(".")?;
     }
-    text.push_str(name)?;
-    Ok(text)
+    text.push_str(name)
 }
 
 /// The bytes of the full name of a name in a scope.
@@ -278,21 +265,44 @@ fn room_under(scope: &str, name: &str) -> usize {
 pub(crate) fn joined(alloc: Global, words: &[&str]) -> Result<String, AllocError>
     ensures { IfOk result (λ text. string_bytes text ≡ dotted (map (λ (word : Bor (List ℕ)). word.now) words.now)) }
 {
+    joined_under(alloc, "", words)
+}
+
+/// The full name of words joined by dots in a scope.
+fn joined_under(alloc: Global, scope: &str, words: &[&str]) -> Result<String, AllocError>
+    ensures { IfOk result (λ text. string_bytes text
+        ≡ qualified scope.now (dotted (map (λ (word : Bor (List ℕ)). word.now) words.now))) }
+{
     match words {
-        [] => Ok(String::new(alloc)),
-        [first, others @ ..] => joined_behind(alloc, first, others),
+        [] => under(alloc, scope, ""),
+        [first, others @ ..] => joined_behind(alloc, scope, first, others),
     }
 }
 
 /// The same for a first word and others.
-fn joined_behind(alloc: Global, first: &str, others: &[&str]) -> Result<String, AllocError>
+fn joined_behind(
+    alloc: Global,
+    scope: &str,
+    first: &str,
+    others: &[&str],
+) -> Result<String, AllocError>
     ensures { IfOk result (λ text. string_bytes text
-        ≡ dotted (first.now ∷ map (λ (word : Bor (List ℕ)). word.now) others.now)) }
+        ≡ qualified scope.now (dotted (first.now ∷ map (λ (word : Bor (List ℕ)). word.now) others.now))) }
 {
-    let mut text = String::from_str(alloc, first)?;
+    let mut text = String::with_capacity(alloc, room_behind(scope, first, others))?;
+    put_under(&mut text, scope, first)?;
     for word in others {
         text.push_str(".")?;
         text.push_str(word)?;
     }
     Ok(text)
+}
+
+/// The bytes of that text, and no fewer.
+fn room_behind(scope: &str, first: &str, others: &[&str]) -> usize {
+    let mut room = room_under(scope, first);
+    for word in others {
+        room = room.saturating_add(word.len()).saturating_add(1);
+    }
+    room
 }

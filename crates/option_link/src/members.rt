@@ -146,7 +146,7 @@ impl<'k, 'n, 'a, 't> Asked<'k, 'n, 'a, 't> {
     /// The same by its full name, of a file.
     fn member_named(
         self,
-        alloc: Global,
+        _alloc: Global,
         file: usize,
         name: &str,
         in_braces: bool,
@@ -155,7 +155,7 @@ impl<'k, 'n, 'a, 't> Asked<'k, 'n, 'a, 't> {
             → IsMemberNamed self.entry.files.names.now self.entry.files.known.now file name.now in_braces field → ⊥)
             (IsMemberNamed self.entry.files.names.now self.entry.files.known.now file name.now in_braces)) }
     {
-        match self.files.names.only_in(alloc, file, name)? {
+        match self.files.names.only_in(file, name) {
             Some(place) => Ok(self.member_at(place, in_braces)),
             None => Ok(None),
         }

@@ -1,6 +1,6 @@
 //! What is looked up by its full name, and which file gives it.
 
-ghost use Rattle.std.specs.Prelude.{ℕ, ◌≡◌, ◌<◌, ◌↔◌, false, IsTrue, IfOk, MatchOption, length};
+ghost use Rattle.std.specs.Prelude.{ℕ, ◌≡◌, ◌<◌, ◌↔◌, false, IsTrue, MatchOption, length};
 ghost use Rattle.proto_visibility.specs.Knows.{IsOwner};
 ghost use Rattle.proto_visibility.specs.Knows.NameKind.{OfPackage};
 ghost use Rattle.option_link.specs.declared.place.DeclaredPlace.{DeclaredPlace};
@@ -11,7 +11,6 @@ use crate::place::DeclaredPlace;
 use crate::sought::Sought;
 use crate::table::{DeclarationTable, Listed};
 use proto_decl::FullName;
-use std::alloc::{AllocError, Global};
 
 impl<'n, 'a, 't> DeclarationTable<'n, 'a, 't> {
     /// Whether a place is in a file, and what stands there has a full name.
@@ -45,7 +44,7 @@ impl<'n, 'a, 't> DeclarationTable<'n, 'a, 't> {
     }
 
     /// The declaration of a file with a full name, if there is one alone, of those that are near the name.
-    fn only_near(
+    fn only_among(
         &self,
         listed: &[Listed],
         name: &FullName<'_>,
@@ -68,19 +67,50 @@ impl<'n, 'a, 't> DeclarationTable<'n, 'a, 't> {
         }
     }
 
-    /// The declaration of a file with this full name, if there is one alone.
-    pub(crate) fn only_in(
+    /// The same: where but one is near, nothing is compared with it.
+    fn only_near(
         &self,
-        _alloc: Global,
+        listed: &[Listed],
+        name: &FullName<'_>,
         file: usize,
-        name: &str,
-    ) -> Result<Option<DeclaredPlace>, AllocError>
-        ensures { IfOk result (λ found. MatchOption found
+    ) -> Option<DeclaredPlace>
+        requires { AreNear self.now name.now listed.now }
+        ensures { MatchOption result
             ((place : DeclaredPlace) → IsOnly self.now file name.now place → ⊥)
-            (IsOnly self.now file name.now)) }
+            (IsOnly self.now file name.now) }
+    {
+        match listed {
+            [one] => self.only_at(one.place, name, file),
+            _ => self.only_among(listed, name, file),
+        }
+    }
+
+    /// The same of the only place where what stands may have the name.
+    fn only_at(
+        &self,
+        place: DeclaredPlace,
+        name: &FullName<'_>,
+        file: usize,
+    ) -> Option<DeclaredPlace>
+        requires { (other : DeclaredPlace) → HasName self.now name.now other → other ≡ place }
+        ensures { MatchOption result
+            ((one : DeclaredPlace) → IsOnly self.now file name.now one → ⊥)
+            (IsOnly self.now file name.now) }
+    {
+        if !self.is_in(file, name, place) {
+            return None;
+        }
+        Some(place)
+    }
+
+    /// The declaration of a file with this full name, if there is one alone.
+    pub(crate) fn only_in(&self, file: usize, name: &str) -> Option<DeclaredPlace>
+        ensures { MatchOption result
+            ((place : DeclaredPlace) → IsOnly self.now file name.now place → ⊥)
+            (IsOnly self.now file name.now) }
     {
         let name = FullName::whole(name);
-        Ok(self.only_near(self.near(&name), &name, file))
+        self.only_near(self.near(&name), &name, file)
     }
 
     /// Whether the declaration at a place is of such a kind, and the file sees its file.
@@ -224,25 +254,82 @@ impl<'n, 'a, 't> DeclarationTable<'n, 'a, 't> {
         }
     }
 
-    /// What has a full name and is sought, if of the files that a file sees one alone gives it, which isn't left out.
-    pub(crate) fn owned(
+    /// What has a full name and is sought, if of the files that a file sees one alone gives it, which isn't left out,
+    /// of those that are near the name.
+    fn owned_among(
         &self,
-        _alloc: Global,
+        listed: &[Listed],
+        name: &FullName<'_>,
         file: usize,
-        name: &str,
         sought: Sought,
-    ) -> Result<Option<DeclaredPlace>, AllocError>
+    ) -> Option<DeclaredPlace>
+        requires near { AreNear self.now name.now listed.now }
         requires file { file < length self.now }
         requires declared { admits sought OfPackage ≡ false }
-        ensures { IfOk result (λ found. MatchOption found
+        ensures { MatchOption result
             ((place : DeclaredPlace) → IsOwned self.now file (admits sought) name.now place → ⊥)
-            (IsOwned self.now file (admits sought) name.now)) }
+            (IsOwned self.now file (admits sought) name.now) }
+    {
+        match self.owner_near(listed, name, file, sought) {
+            Some(owner) => self.only_near(listed, name, owner),
+            None => None,
+        }
+    }
+
+    /// The same of the only place where what stands may have the name.
+    fn owned_at(
+        &self,
+        place: DeclaredPlace,
+        name: &FullName<'_>,
+        file: usize,
+        sought: Sought,
+    ) -> Option<DeclaredPlace>
+        requires near { (other : DeclaredPlace) → HasName self.now name.now other → other ≡ place }
+        requires file { file < length self.now }
+        requires declared { admits sought OfPackage ≡ false }
+        ensures { MatchOption result
+            ((one : DeclaredPlace) → IsOwned self.now file (admits sought) name.now one → ⊥)
+            (IsOwned self.now file (admits sought) name.now) }
+    {
+        if !self.is_sought(name, file, sought, place) {
+            return None;
+        }
+        if !self.is_present(place.file) {
+            return None;
+        }
+        Some(place)
+    }
+
+    /// The same: where but one is near, nothing is compared with it.
+    fn owned_near(
+        &self,
+        listed: &[Listed],
+        name: &FullName<'_>,
+        file: usize,
+        sought: Sought,
+    ) -> Option<DeclaredPlace>
+        requires near { AreNear self.now name.now listed.now }
+        requires file { file < length self.now }
+        requires declared { admits sought OfPackage ≡ false }
+        ensures { MatchOption result
+            ((place : DeclaredPlace) → IsOwned self.now file (admits sought) name.now place → ⊥)
+            (IsOwned self.now file (admits sought) name.now) }
+    {
+        match listed {
+            [one] => self.owned_at(one.place, name, file, sought),
+            _ => self.owned_among(listed, name, file, sought),
+        }
+    }
+
+    /// What has a full name and is sought, if of the files that a file sees one alone gives it, which isn't left out.
+    pub(crate) fn owned(&self, file: usize, name: &str, sought: Sought) -> Option<DeclaredPlace>
+        requires file { file < length self.now }
+        requires declared { admits sought OfPackage ≡ false }
+        ensures { MatchOption result
+            ((place : DeclaredPlace) → IsOwned self.now file (admits sought) name.now place → ⊥)
+            (IsOwned self.now file (admits sought) name.now) }
     {
         let name = FullName::whole(name);
-        let listed = self.near(&name);
-        match self.owner_near(listed, &name, file, sought) {
-            Some(owner) => Ok(self.only_near(listed, &name, owner)),
-            None => Ok(None),
-        }
+        self.owned_near(self.near(&name), &name, file, sought)
     }
 }

@@ -39,9 +39,8 @@ impl<'k, 'n, 'a, 't> Asked<'k, 'n, 'a, 't> {
                     return Ok(None);
                 }
                 let name = joined(alloc, words)?;
-                self.files
-                    .names
-                    .owned(alloc, self.file, name.as_str(), Sought::AMessage)
+                let names = self.files.names;
+                Ok(names.owned(self.file, name.as_str(), Sought::AMessage))
             }
             None => Ok(None),
         }
@@ -107,7 +106,7 @@ impl<'k, 'n, 'a, 't> Asked<'k, 'n, 'a, 't> {
             (IsValueNamed self.entry.files.names.now file outer.now scope.now word.now)) }
     {
         let name = under(alloc, scope, word)?;
-        match self.files.names.only_in(alloc, file, name.as_str())? {
+        match self.files.names.only_in(file, name.as_str()) {
             Some(place) => {
                 if !self.is_value_in(outer, place) {
                     return Ok(None);

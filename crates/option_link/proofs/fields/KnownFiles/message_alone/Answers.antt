@@ -15,8 +15,8 @@ returns-then-not-is_a c = λ d stands.
     (ap (λ (x : Declaration). x.kind) (same_declaration c.args.self.names.now c.args.place c.in-Some.declared.now d
     c.in-Some.ensures.stands stands.stands) ∙ stands.is)
 
-pub returns-in_ok-only-in-Some : goal.returns-in_ok-only-in-Some
-returns-in_ok-only-in-Some c =
+pub returns-in_ok-name-in-Some : goal.returns-in_ok-name-in-Some
+returns-in_ok-name-in-Some c =
     let files = c.args.self.names.now in
     let place = c.args.place in
     let d = c.in-Some.declared.now in
@@ -24,14 +24,14 @@ returns-in_ok-only-in-Some c =
     let kind = c.is_a.ensures.0 c.if-not-is_a.false in
     let named : c.as_str.result.now ≡ d.full_name =
     c.as_str.ensures ∙ (c.in_ok-name-in-Some.ensures ∙ c.full_name.ensures) in
-    let only = subst (λ (n : List ℕ). MatchOption c.in_ok-only-in-Some.only
+    let only = subst (λ (n : List ℕ). MatchOption c.only_in-only.result
     ((p : DeclaredPlace) → IsOnly files place.file n p → ⊥) (IsOnly files place.file n)) named
-    c.in_ok-only-in-Some.ensures in
-    option_as c.if_same.result (c.in_ok-only-in-Some.only ≡ Some place → ⊥)
+    c.only_in-only.ensures in
+    option_as c.if_same.result (c.only_in-only.result ≡ Some place → ⊥)
     ((e : Declaration) → StandsAs files Message place e → ⊥)
-    (λ same. (same ≡ place) × (c.in_ok-only-in-Some.only ≡ Some place))
+    (λ same. (same ≡ place) × (c.only_in-only.result ≡ Some place))
     (λ message. (message ≡ place) × ((e : Declaration) × StandsAs files Message place e))
-    (λ none. not_alone_by files place d stands c.in_ok-only-in-Some.only only none)
+    (λ none. not_alone_by files place d stands c.only_in-only.result only none)
     (λ message its. (
       its.0,
       alone_by files place d stands kind

@@ -1,8 +1,8 @@
-use Rattle.std.proofs.Common.{◌≡◌, ℕ, Option, Some, None, MatchOption, IfOk, sym, subst}
+use Rattle.std.proofs.Common.{◌≡◌, ℕ, Option, Some, None, MatchOption, sym, subst}
 use Rattle.option_link.specs.Typed.{HasMessage, IsAroundIn, IsMessageAt}
 use Rattle.option_link.specs.Typed.HasMessage.{around}
 use Rattle.option_link.specs.declared.place.DeclaredPlace.{DeclaredPlace}
-use Rattle.option_link.proofs.LoopLemmas.{found_as, option_as, some_of}
+use Rattle.option_link.proofs.LoopLemmas.{option_as, some_of}
 use Rattle.option_link.proofs.MessageLemmas.{extending_by, extending_not, around_to}
 use Rattle.option_link.proofs.fields.KnownFiles.message_with.Goals as goal
 
@@ -29,10 +29,10 @@ returns-in-None c =
     let files = c.args.self.names.now in
     let field = c.args.field in
     let name = c.args.full_name.now in
-    subst (λ (e : Option ℕ). IfOk c.message_around.result (λ found. MatchOption found
-    ((message : DeclaredPlace) → HasMessage files field name e message → ⊥) (HasMessage files field name e)))
+    subst (λ (e : Option ℕ). MatchOption c.message_around.result
+    ((message : DeclaredPlace) → HasMessage files field name e message → ⊥) (HasMessage files field name e))
     (sym c.in-None.is)
-    (found_as c.message_around.result ((message : DeclaredPlace) → IsAroundIn files field.file name message → ⊥)
+    (option_as c.message_around.result ((message : DeclaredPlace) → IsAroundIn files field.file name message → ⊥)
     ((message : DeclaredPlace) → HasMessage files field name None message → ⊥) (IsAroundIn files field.file name)
     (HasMessage files field name None)
     (λ none message has. none message (around_to files field name message has)) (λ message is. around is)

@@ -5,7 +5,7 @@ use Rattle.option_link.specs.Lookups.{admits}
 use Rattle.option_link.specs.Tables.{IsOwned}
 use Rattle.option_link.specs.Typed.{IsTypeNamed}
 use Rattle.option_link.specs.declared.place.DeclaredPlace.{DeclaredPlace}
-use Rattle.option_link.proofs.LoopLemmas.{found_as}
+use Rattle.option_link.proofs.LoopLemmas.{option_as}
 use Rattle.option_link.proofs.TypeAtLemmas.{answered, unanswered, type_owned, type_unowned}
 use Rattle.option_link.proofs.fields.KnownFiles.type_named.Goals as goal
 
@@ -24,7 +24,7 @@ returns-in-Some c =
     c.in_ok-target.ensures c.in-Some.is c.resolve-answer.ensures.target) in
     let role = admits c.sought_by-sought.result in
     let named : c.as_str.result.now ≡ target.name = c.as_str.ensures in
-    found_as c.owned.result ((place : DeclaredPlace) → IsOwned files file role c.as_str.result.now place → ⊥)
+    option_as c.owned.result ((place : DeclaredPlace) → IsOwned files file role c.as_str.result.now place → ⊥)
     ((type : DeclaredPlace) → IsTypeNamed files file used type → ⊥) (IsOwned files file role c.as_str.result.now)
     (IsTypeNamed files file used)
     (λ none type x. none type (type_unowned files file used target is role c.sought_by-sought.ensures.role

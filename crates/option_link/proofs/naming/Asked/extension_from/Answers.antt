@@ -4,6 +4,7 @@ use Rattle.option_link.specs.Found.{IsExtensionFrom, IsExtensionNamed}
 use Rattle.option_link.specs.declared.place.DeclaredPlace.{DeclaredPlace}
 use Rattle.option_link.proofs.LoopLemmas.{found_as, some_of, none_of}
 use Rattle.option_link.proofs.ExtensionLemmas.{named_from, from_named}
+use Rattle.option_link.proofs.NameLemmas.{looked_for}
 use Rattle.option_link.proofs.WordLemmas.{now}
 use Rattle.option_link.proofs.naming.Asked.extension_from.Goals as goal
 
@@ -31,4 +32,5 @@ returns-in-Some c =
     (λ field is. from_named files known self.file option context c.args.has_dot words scope full up field is) named
 
 pub returns-in-None : goal.returns-in-None
-returns-in-None c = λ field is. none_of _ _ c.in-None.is c.in_ok-found.ensures is.full_name is.found
+returns-in-None c = λ field is. none_of _ _ c.in-None.is c.in_ok-found.ensures is.full_name
+    (looked_for is.found)

@@ -3,14 +3,14 @@ use Rattle.option_link.specs.Contexts.{MayBeExtended}
 use Rattle.option_link.specs.Fields.{IsFieldOf}
 use Rattle.option_link.specs.Found.{IsExtensionNamed}
 use Rattle.option_link.specs.declared.place.DeclaredPlace.{DeclaredPlace}
-use Rattle.option_link.proofs.LoopLemmas.{found_as, some_of, none_of}
+use Rattle.option_link.proofs.LoopLemmas.{found_as}
 use Rattle.option_link.proofs.ExtensionLemmas.{extends_by, extends_not, owned_field}
 use Rattle.option_link.proofs.naming.Asked.extension_named.Goals as goal
 
 pub if_extends-requires : goal.if_extends-requires
 if_extends-requires c =
     owned_field c.args.self.files.names.now c.args.self.file c.args.full_name.now c.in-Some.field
-    (some_of _ _ _ c.in-Some.is c.in_ok-found.ensures)
+    c.in-Some.ensures
 
 pub returns-in-Some : goal.returns-in-Some
 returns-in-Some c =
@@ -21,7 +21,7 @@ returns-in-Some c =
     let context = c.args.context in
     let full = c.args.full_name.now in
     let field = c.in-Some.field in
-    let owned = some_of _ _ _ c.in-Some.is c.in_ok-found.ensures in
+    let owned = c.in-Some.ensures in
     found_as c.if_extends.result ((message : DeclaredPlace) → MayBeExtended files option context message
     → IsFieldOf files known message field → ⊥)
     ((other : DeclaredPlace) → IsExtensionNamed files known self.file option context full other → ⊥)
@@ -32,4 +32,4 @@ returns-in-Some c =
     (extends_by files known self.file option context full field owned its.1.0 its.1.1 its.1.2)) c.if_extends.ensures
 
 pub returns-in-None : goal.returns-in-None
-returns-in-None c = λ other is. none_of _ _ c.in-None.is c.in_ok-found.ensures other is.owned
+returns-in-None c = λ other is. c.in-None.ensures other is.owned

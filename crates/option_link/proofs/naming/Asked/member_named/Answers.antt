@@ -1,6 +1,6 @@
 use Rattle.option_link.specs.Found.{IsMemberHere, IsMemberNamed}
 use Rattle.option_link.specs.declared.place.DeclaredPlace.{DeclaredPlace}
-use Rattle.option_link.proofs.LoopLemmas.{option_as, some_of, none_of}
+use Rattle.option_link.proofs.LoopLemmas.{option_as}
 use Rattle.option_link.proofs.OwnFieldLemmas.{named_here}
 use Rattle.option_link.proofs.naming.Asked.member_named.Goals as goal
 
@@ -13,7 +13,7 @@ returns-in-Some c =
     let name = c.args.name.now in
     let braces = c.args.in_braces in
     let place = c.in-Some.place in
-    let is = some_of _ _ _ c.in-Some.is c.in_ok-place.ensures in
+    let is = c.in-Some.ensures in
     option_as c.member_at.result ((field : DeclaredPlace) → IsMemberHere files known place braces field → ⊥)
     ((field : DeclaredPlace) → IsMemberNamed files known file name braces field → ⊥)
     (IsMemberHere files known place braces) (IsMemberNamed files known file name braces)
@@ -21,4 +21,4 @@ returns-in-Some c =
     (λ field here. record { place = place; only = is; here = here }) c.member_at.ensures
 
 pub returns-in-None : goal.returns-in-None
-returns-in-None c = λ field x. none_of _ _ c.in-None.is c.in_ok-place.ensures x.place x.only
+returns-in-None c = λ field x. c.in-None.ensures x.place x.only

@@ -1,4 +1,4 @@
-use Rattle.std.proofs.Common.{◌≡◌, ◌∙◌, List, ℕ, IfOk, MatchOption, map, ap, sym, subst}
+use Rattle.std.proofs.Common.{◌≡◌, ◌∙◌, List, ℕ, MatchOption, map, ap, sym, subst}
 use Rattle.std.specs.Prelude.{codes}
 use Rattle.std.proofs.lemmas.Slice.Eq.{bytes_eq-Decides}
 use Rattle.std.proofs.lemmas.Bool.{false≢true}
@@ -8,7 +8,7 @@ use Rattle.proto_visibility.specs.Knows.{is_message}
 use Rattle.option_link.specs.Found.{IsPackedIn}
 use Rattle.option_link.specs.Tables.{IsOwned}
 use Rattle.option_link.specs.declared.place.DeclaredPlace.{DeclaredPlace}
-use Rattle.option_link.proofs.LoopLemmas.{found_as}
+use Rattle.option_link.proofs.LoopLemmas.{option_as}
 use Rattle.option_link.proofs.PlaceLemmas.{same_declaration}
 use Rattle.option_link.proofs.WordLemmas.{now}
 use Rattle.option_link.proofs.naming.Asked.packed.Goals as goal
@@ -30,10 +30,10 @@ returns-in_ok-name-in-Some c =
     let called : c.in-Some.outer.now.full_name ≡ codes "google.protobuf.Any" =
     sym c.full_name.ensures ∙ (bytes_eq-Decides c.full_name.result (codes "google.protobuf.Any")).0
     (sym c.is.ensures ∙ c.if-not-is.false) in
-    let owned = subst (λ (n : List ℕ). IfOk c.owned.result (λ found. MatchOption found
-    ((place : DeclaredPlace) → IsOwned files file is_message n place → ⊥) (IsOwned files file is_message n)))
+    let owned = subst (λ (n : List ℕ). MatchOption c.owned.result
+    ((place : DeclaredPlace) → IsOwned files file is_message n place → ⊥) (IsOwned files file is_message n))
     (c.as_str.ensures.value ∙ c.in_ok-name-in-Some.ensures) c.owned.ensures in
-    found_as c.owned.result ((place : DeclaredPlace) → IsOwned files file is_message (dotted words) place → ⊥)
+    option_as c.owned.result ((place : DeclaredPlace) → IsOwned files file is_message (dotted words) place → ⊥)
     ((message : DeclaredPlace) → IsPackedIn files file any words message → ⊥) (IsOwned files file is_message
     (dotted words))
     (IsPackedIn files file any words) (λ none message x. none message x.owned)

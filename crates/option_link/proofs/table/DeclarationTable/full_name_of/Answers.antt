@@ -1,5 +1,6 @@
 use Rattle.std.proofs.Common.{false, Bool, List, ℕ, IfOk, map, sym, subst, arith}
 use Rattle.std.specs.String.{string_bytes}
+use Rattle.option_link.specs.Tables.{LooksFor}
 use Rattle.option_link.proofs.LookupLemmas.{Answers, absolute_by, no_words, several_of}
 use Rattle.option_link.proofs.WordLemmas.{now, one_of}
 use Rattle.option_link.proofs.table.DeclarationTable.full_name_of.Goals as goal
@@ -9,10 +10,9 @@ returns-then-has_dot c =
     let files = c.args.self.now in
     let words = map now c.args.words.now in
     let scope = c.args.scope.now in
-    subst (λ (dot : Bool). Answers files c.args.file string_bytes scope c.if_field.result dot words)
-    (sym c.if-has_dot.true)
-    (absolute_by files c.args.file string_bytes scope words (string_bytes c.in_ok-name.name) c.if_field.result
-    c.in_ok-name.ensures c.if_field.ensures)
+    let name = string_bytes c.in_ok-name.name in
+    subst (λ (dot : Bool). LooksFor files c.args.file dot words scope name) (sym c.if-has_dot.true)
+    (absolute_by files c.args.file scope words name c.in_ok-name.ensures)
 
 pub returns-in-empty : goal.returns-in-empty
 returns-in-empty c =

@@ -20,8 +20,8 @@ loop-one-preserved c =
     let listed = c.near-listed.result.now in
     let index = c.loop-one.one-index in
     kept_more (λ (one : Listed). one.place) (IsMessageNamed c.args.self.now c.args.name.now) listed index
-    (get_or listed index nothing) c.loop-one.messages.items c.push_if.new.places.items c.in_ok-is.is'
-    (slice_get-get_or listed index nothing (omega arith)) c.in_ok-is.ensures c.in_ok-push_if.ensures
+    (get_or listed index nothing) c.loop-one.messages.items c.push_if.new.places.items c.is_message_named-is.result
+    (slice_get-get_or listed index nothing (omega arith)) c.is_message_named-is.ensures c.in_ok-push_if.ensures
     c.loop-one.invariant
 
 pub returns : goal.returns

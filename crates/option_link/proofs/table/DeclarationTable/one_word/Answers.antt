@@ -10,8 +10,8 @@ returns-in_ok-name-in-Some c =
     let scope = c.args.scope.now in
     let word = c.args.word.now in
     let innermost = some_of _ _ _ c.in-Some.is c.in_ok-start.ensures in
-    single_by files file string_bytes scope word c.in-Some.start.now (string_bytes c.in_ok-name-in-Some.name)
-    c.if_field.result innermost c.in_ok-name-in-Some.ensures c.if_field.ensures
+    single_by files file scope word c.in-Some.start.now (string_bytes c.in_ok-name-in-Some.name) innermost
+    c.in_ok-name-in-Some.ensures
 
 pub returns-in-None : goal.returns-in-None
 returns-in-None c =

@@ -1,30 +1,14 @@
-use Rattle.std.proofs.Common.{List, ℕ, MatchOption, sym, subst}
+use Rattle.std.proofs.Common.{List, ℕ, MatchOption, subst}
 use Rattle.option_link.specs.declared.place.DeclaredPlace.{DeclaredPlace}
 use Rattle.option_link.specs.Lookups.{admits}
-use Rattle.option_link.specs.Tables.{IsOnly, IsOwned}
-use Rattle.option_link.proofs.LoopLemmas.{option_as}
-use Rattle.option_link.proofs.OwnerLemmas.{owned_in, owned_out}
+use Rattle.option_link.specs.Tables.{IsOwned}
 use Rattle.option_link.proofs.table.DeclarationTable.owned.Goals as goal
 
-pub returns-in-Some : goal.returns-in-Some
-returns-in-Some c =
+pub returns : goal.returns
+returns c =
     let files = c.args.self.now in
     let file = c.args.file in
-    let owner = c.in-Some.owner in
     let role = admits c.args.sought in
-    let name = c.whole-name.result in
-    subst (λ (n : List ℕ). MatchOption c.only_near.result
+    subst (λ (n : List ℕ). MatchOption c.owned_near.result
     ((place : DeclaredPlace) → IsOwned files file role n place → ⊥) (IsOwned files file role n)) c.whole-name.ensures
-    (option_as c.only_near.result ((place : DeclaredPlace) → IsOnly files owner name place → ⊥)
-    ((place : DeclaredPlace) → IsOwned files file role name place → ⊥) (IsOnly files owner name)
-    (IsOwned files file role name)
-    (λ none place owned. none place
-    (owned_out files file role c.requires.declared name owner c.in-Some.ensures place owned))
-    (λ place only. owned_in files file role c.requires.declared name owner c.in-Some.ensures place only)
-    c.only_near.ensures)
-
-pub returns-in-None : goal.returns-in-None
-returns-in-None c = λ place owned. c.in-None.ensures place.file
-    (subst (λ (n : List ℕ). IsOwned c.args.self.now c.args.file (admits c.args.sought) n place)
-    (sym c.whole-name.ensures)
-    owned).owner
+    c.owned_near.ensures

@@ -1,6 +1,6 @@
 -- The full names that the first components of a full name make, from the longest to shorter ones.
 use Rattle.std.proofs.Common.{◌≡◌, ◌∙◌, ap, refl, sym, subst, ℕ, zero, suc, ◌+◌, ◌-◌, ◌<◌, ◌≤◌, inl, inr, List, [], ◌∷◌}
-use Rattle.std.proofs.Common.{◌++◌, length, map, take, reverse, get_or, Some, MatchOption, arith, length-append}
+use Rattle.std.proofs.Common.{◌++◌, length, take, reverse, Some, arith, length-append}
 use Rattle.std.specs.List.{All, Contains, slice_get, count_by}
 use Rattle.std.proofs.lemmas.Bool.{cases_lt}
 use Rattle.std.proofs.lemmas.List.{take-map, length-map, length_push, length-reverse, get_or-reverse, get_or_push}
@@ -8,7 +8,7 @@ use Rattle.std.proofs.lemmas.List.Elements.{All-nil, All-cons, All-head, All-tai
 use Rattle.std.proofs.lemmas.List.Splits.{slice_split_at, length-slice_split}
 use Rattle.std.proofs.lemmas.Option.{same_Some, slice_get_within, slice_get-get_or, get_or_from_slice_get}
 use Rattle.basics.proofs.FirstLemmas.{at_contained}
-use Rattle.proto_decl.specs.Names.{IsAround, IsSimple, components_of, dotted, package_of, prefix_of}
+use Rattle.proto_decl.specs.Names.{IsAround, IsSimple, components_of, dotted, prefix_of}
 use Rattle.proto_decl.specs.Names.IsAround.{before_dot, root}
 use Rattle.proto_decl.specs.Facts.{Facts}
 use Rattle.proto_decl.specs.Laws.{IsEntity, PrefixesAreEntities, component_names, names_of, AreHeld}

@@ -29,6 +29,7 @@ pub mod FieldLemmas
 pub mod BesideLemmas
 pub mod MemberLemmas
 pub mod MessageLemmas
+pub mod KnownFieldLemmas
 pub mod MessageKindLemmas
 pub mod NameLemmas
 pub mod OwnFieldLemmas

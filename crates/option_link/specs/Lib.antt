@@ -17,4 +17,5 @@ pub mod Messages
 -- what the options of a file name
 pub mod OptionNames
 pub mod Found
+pub mod KnownFields
 pub mod Laws

@@ -20,6 +20,7 @@ ghost use Rattle.option_link.specs.Typed.{IsMessageAt};
 
 use crate::contexts::Context;
 use crate::facts::FilesBeside;
+use crate::often_used::OftenUsed;
 use crate::place::DeclaredPlace;
 use crate::searches::{field_among, if_same, named_by, sought_by, use_at};
 use crate::table::{DeclarationTable, is_a};
@@ -28,12 +29,15 @@ use proto_lex::Span;
 use proto_options::{FieldFact, FieldKind};
 use std::alloc::{AllocError, Global};
 
-/// Files that are linked, with what is known of each beside its facts.
+/// Files that are linked, with what is known of each beside its facts, and of the fields that options use often.
 #[derive(Clone, Copy)]
 pub(crate) struct KnownFiles<'k, 'n, 'a, 't> {
     pub(crate) names: &'k DeclarationTable<'n, 'a, 't>,
     pub(crate) known: &'n FilesBeside<'n>,
+    pub(crate) often: &'k OftenUsed<'k, 'n, 'a, 't>,
     ghost in_order: { AreInOrder known.now },
+    ghost same_files: { often.now.files ≡ names.now },
+    ghost same_known: { often.now.known ≡ known.now },
 }
 
 impl<'k, 'n, 'a, 't> KnownFiles<'k, 'n, 'a, 't> {
@@ -164,6 +168,22 @@ impl<'k, 'n, 'a, 't> KnownFiles<'k, 'n, 'a, 't> {
 
     /// What names are looked up in that belong to a field.
     pub(crate) fn field_gives(
+        self,
+        alloc: Global,
+        field: DeclaredPlace,
+    ) -> Result<Option<Context>, AllocError>
+        ensures { IfOk result (λ found. MatchOption found
+            ((context : Context) → FieldGives self.entry.names.now self.entry.known.now field context → ⊥)
+            (FieldGives self.entry.names.now self.entry.known.now field)) }
+    {
+        match self.often.field_at(field) {
+            Some(one) => Ok(one.gives),
+            None => self.field_gives_anew(alloc, field),
+        }
+    }
+
+    /// The same, found anew.
+    fn field_gives_anew(
         self,
         alloc: Global,
         field: DeclaredPlace,
@@ -339,7 +359,7 @@ impl<'k, 'n, 'a, 't> KnownFiles<'k, 'n, 'a, 't> {
     }
 
     /// The message of a file around a full name.
-    fn message_around(self, file: usize, full_name: &str) -> Option<DeclaredPlace>
+    pub(crate) fn message_around(self, file: usize, full_name: &str) -> Option<DeclaredPlace>
         ensures { MatchOption result
             ((message : DeclaredPlace) → IsAroundIn self.entry.names.now file full_name.now message → ⊥)
             (IsAroundIn self.entry.names.now file full_name.now) }

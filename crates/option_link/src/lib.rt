@@ -26,7 +26,9 @@ mod table;
 
 // What fields are of, and their types.
 mod fields;
+mod known_fields;
 mod often;
+mod often_used;
 mod searches;
 mod types;
 

@@ -21,9 +21,11 @@ ghost use Rattle.option_link.specs.Found.{AddsTarget, AreFound, HasParts, first_
 use crate::contexts::Context;
 use crate::facts::FilesBeside;
 use crate::fields::KnownFiles;
+use crate::known_fields::KnownFields;
 use crate::messages::OptionMessages;
 use crate::naming::Asked;
-use crate::often::types_of;
+use crate::often::{fields_of, often_used, types_of};
+use crate::often_used::OftenUsed;
 use crate::place::DeclaredPlace;
 use crate::table::DeclarationTable;
 use crate::target::{OptionTarget, OptionTargets};
@@ -34,7 +36,8 @@ use proto_options::{FileOption, OptionName};
 use std::alloc::{AllocError, Global};
 use std::marker::Model;
 
-/// Files that are linked, with all their declarations, what is known of each beside its facts, and whether it counts.
+/// Files that are linked, with all their declarations, what is known of each beside its facts, whether it counts, and
+/// what is known of the fields that options use often.
 ///
 /// Contracts see the list of the files, and that of what is known of each.
 #[derive(Drop)]
@@ -42,9 +45,11 @@ pub struct OptionLinker<'n, 'a, 't> {
     known: &'n FilesBeside<'n>,
     table: DeclarationTable<'n, 'a, 't>,
     counted: Vec<bool>,
+    often: KnownFields,
 }
 
 impl<'n, 'a, 't> Model for OptionLinker<'n, 'a, 't> {
+    ghost use Rattle.option_link.specs.KnownFields.{AreKnownFields};
     ghost use Rattle.option_link.specs.Linked.{LinkedOptions, AreToldOf};
 
     ghost Value = { LinkedOptions };
@@ -52,7 +57,8 @@ impl<'n, 'a, 't> Model for OptionLinker<'n, 'a, 't> {
     ghost view = { λ options. record { files = options.table; known = options.known.now } };
 
     ghost invariant = { λ options. AreToldOf (record { files = options.table; known = options.known.now })
-        options.counted.items };
+        options.counted.items
+        × AreKnownFields options.table options.known.now options.often.fields.items };
 }
 
 impl<'n, 'a, 't> OptionLinker<'n, 'a, 't> {
@@ -68,15 +74,18 @@ impl<'n, 'a, 't> OptionLinker<'n, 'a, 't> {
         ensures { IfOk result (λ options. options ≡ record { files = linker.now; known = known.now }) }
     {
         let mut table = DeclarationTable::of(alloc, linker)?;
-        let types = types_of(alloc, &table, known)?;
+        let numbers = often_used(alloc, linker)?;
+        let types = types_of(alloc, &table, known, numbers.as_slice())?;
         table.keep_types(types);
         let messages = OptionMessages::find(alloc, &table)?;
         table.keep_messages(messages);
         let counted = table.counted(alloc)?;
+        let often = fields_of(alloc, &table, known, numbers.as_slice())?;
         Ok(OptionLinker {
             known,
             table,
             counted,
+            often,
         })
     }
 
@@ -118,9 +127,11 @@ impl<'n, 'a, 't> OptionLinker<'n, 'a, 't> {
             (λ number. (name : OptionName) × IsGap self.now.files self.now.known file text.now option.now
             number name)) }
     {
+        let often = OftenUsed::new(&self.table, self.known, &self.often);
         let files = KnownFiles {
             names: &self.table,
             known: self.known,
+            often: &often,
         };
         let asked = Asked {
             files,

@@ -107,7 +107,7 @@ fn listed_of(alloc: Global, linker: &Linker<'_, '_>) -> Result<Vec<Listed>, Allo
     for file in 0..linker.count() {
         list_known(&mut listed, linker, file)?;
     }
-    listed.sort_by_key(|one| one.hash64)?;
+    listed.sort_unstable_by_key(|one| one.hash64);
     Ok(listed)
 }
 

@@ -1,4 +1,4 @@
-use Rattle.std.proofs.Common.{◌≡◌, ◌-◌, ◌<◌, length, refl, ap, sym, ◌∙◌, arith}
+use Rattle.std.proofs.Common.{◌-◌, ◌<◌, length, refl, ap, arith}
 use Rattle.std.proofs.lemmas.List.{length_push}
 use Rattle.option_link.proofs.FrontLemmas.{front_is, front_is_entity, front_is_prefix, front_some, next_front}
 use Rattle.option_link.proofs.FrontLemmas.{from_inside_none, from_inside_more, outer_from_inside}

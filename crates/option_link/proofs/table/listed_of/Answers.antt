@@ -14,7 +14,7 @@ loop-file-preserved c =
 
 pub returns : goal.returns
 returns c =
-    lists_all c.args.linker.now c.loop-file.file c.loop-file.listed.items c.sort_by_key.new.self.items
-    (omega (arith, c.count-file-end.ensures)) c.loop-file.invariant c.sort_by_key.ensures.permutation
-    (IsNonDecreasingBy-from_sort_by_key (λ (one : Listed). one.hash64) c.sort_by_key.new.self.items
-    c.in_ok-sort_by_key.ensures.sorted (λ a r q k. search rules))
+    lists_all c.args.linker.now c.loop-file.file c.loop-file.listed.items c.sort_unstable_by_key.new.self.items
+    (omega (arith, c.count-file-end.ensures)) c.loop-file.invariant c.sort_unstable_by_key.ensures.permutation
+    (IsNonDecreasingBy-from_sort_by_key (λ (one : Listed). one.hash64) c.sort_unstable_by_key.new.self.items
+    c.sort_unstable_by_key.ensures.sorted (λ a r q k. search rules))

@@ -8,13 +8,16 @@ abbrev linked_with : List OptionFacts → List File → LinkedOptions
 linked_with known files = record { files = files; known = known }
 
 pub invariant_of-result : goal.invariant_of-result
-invariant_of-result c = record {
-  known = record {
-    each = c.requires.each ∙ sym (ap length (c.keep_messages.ensures ∙ (c.keep_types.ensures ∙ c.in_ok-table.ensures)));
-    in_order = c.requires.in_order;
-  };
-  counted = c.in_ok-counted.ensures;
-}
+invariant_of-result c = (
+  record {
+    known = record {
+      each = c.requires.each ∙ sym (ap length (c.keep_messages.ensures ∙ (c.keep_types.ensures ∙ c.in_ok-table.ensures)));
+      in_order = c.requires.in_order;
+    };
+    counted = c.in_ok-counted.ensures;
+  },
+  c.in_ok-often.ensures,
+)
 
 pub returns : goal.returns
 returns c = ap (linked_with c.args.known.now) (c.keep_messages.ensures ∙ (c.keep_types.ensures ∙ c.in_ok-table.ensures))

@@ -1,4 +1,4 @@
-use Rattle.std.proofs.Common.{◌↔◌, ℕ, IfOk, MatchOption, sym, subst}
+use Rattle.std.proofs.Common.{◌↔◌, ℕ, IfOk, MatchOption, ap, sym, subst}
 use Rattle.std.specs.List.{Contains}
 use Rattle.proto_options.specs.declared.names.OptionName.{OptionName}
 use Rattle.proto_visibility.specs.Files.{IsSource}
@@ -7,8 +7,15 @@ use Rattle.option_link.specs.Linked.{LinkedOptions}
 use Rattle.option_link.specs.OptionNames.{IsGap, IsOptionTarget}
 use Rattle.option_link.proofs.linker.OptionLinker.targets.Goals as goal
 
+pub new-often-requires : goal.new-often-requires
+new-often-requires c = c.self.invariant.1
+
 pub invariant_of-files : goal.invariant_of-files
-invariant_of-files c = record { in_order = c.self.invariant.known.in_order }
+invariant_of-files c = record {
+  in_order = c.self.invariant.0.known.in_order;
+  same_files = ap (λ (o : LinkedOptions). o.files) c.new-often.ensures;
+  same_known = ap (λ (o : LinkedOptions). o.known) c.new-often.ensures;
+}
 
 pub all_targets-requires : goal.all_targets-requires
 all_targets-requires c = subst (λ (o : LinkedOptions). IsSource o.files c.args.file) (sym c.self.view_is) c.requires

@@ -1,4 +1,4 @@
-use Rattle.std.proofs.Common.{◌≡◌, ◌<◌, List, ℕ, length, sym, ◌∙◌, subst}
+use Rattle.std.proofs.Common.{◌<◌, List, ℕ, length, sym, ◌∙◌, subst}
 use Rattle.option_link.proofs.MemberLemmas.{filled_name}
 use Rattle.option_link.proofs.naming.Asked.message_name.Goals as goal
 

@@ -2,13 +2,13 @@ use Rattle.option_link.specs.Found.{IsMemberHere, IsMemberNamed}
 use Rattle.option_link.specs.declared.place.DeclaredPlace.{DeclaredPlace}
 use Rattle.option_link.proofs.LoopLemmas.{option_as}
 use Rattle.option_link.proofs.OwnFieldLemmas.{named_here}
-use Rattle.option_link.proofs.naming.Asked.member_named.Goals as goal
+use Rattle.option_link.proofs.fields.KnownFiles.member_named.Goals as goal
 
 pub returns-in-Some : goal.returns-in-Some
 returns-in-Some c =
     let self = c.args.self in
-    let files = self.files.names.now in
-    let known = self.files.known.now in
+    let files = self.names.now in
+    let known = self.known.now in
     let file = c.args.file in
     let name = c.args.name.now in
     let braces = c.args.in_braces in

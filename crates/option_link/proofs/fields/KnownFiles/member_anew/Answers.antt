@@ -3,16 +3,16 @@ use Rattle.proto_decl.specs.Names.{qualified}
 use Rattle.proto_decl.specs.declared.declaration.Declaration.{Declaration}
 use Rattle.option_link.specs.Found.{IsMemberNamed, IsMemberOf}
 use Rattle.option_link.specs.declared.place.DeclaredPlace.{DeclaredPlace}
-use Rattle.option_link.proofs.LoopLemmas.{found_as}
+use Rattle.option_link.proofs.LoopLemmas.{option_as}
 use Rattle.option_link.proofs.OwnFieldLemmas.{member_from, member_to}
 use Rattle.option_link.proofs.PlaceLemmas.{same_declaration}
-use Rattle.option_link.proofs.naming.Asked.member.Goals as goal
+use Rattle.option_link.proofs.fields.KnownFiles.member_anew.Goals as goal
 
 pub returns-in_ok-name-in-Some : goal.returns-in_ok-name-in-Some
 returns-in_ok-name-in-Some c =
     let self = c.args.self in
-    let files = self.files.names.now in
-    let known = self.files.known.now in
+    let files = self.names.now in
+    let known = self.known.now in
     let message = c.args.message in
     let word = c.args.word.now in
     let braces = c.args.in_braces in
@@ -23,7 +23,7 @@ returns-in_ok-name-in-Some c =
     let named : name ≡ qualified outer.full_name word =
     c.as_str-in-Some.ensures.value ∙ (c.in_ok-name-in-Some.ensures ∙ ap (λ (s : List ℕ). qualified s word)
     (c.as_str.ensures.value ∙ (c.in_ok-scope-in-Some.ensures ∙ ap (λ (d : Declaration). d.full_name) same))) in
-    found_as c.member_named.result
+    option_as c.member_named.result
     ((field : DeclaredPlace) → IsMemberNamed files known message.file name braces field → ⊥)
     ((field : DeclaredPlace) → IsMemberOf files known message word braces field → ⊥)
     (IsMemberNamed files known message.file name braces) (IsMemberOf files known message word braces)

@@ -126,6 +126,66 @@ ended() {
     exit
 }
 
+# ---- parts of a tree
+
+# with_known_files: puts descriptor.proto, which need not be installed, where --well-known finds it.
+with_known_files() {
+    mkdir -p "$work/known/bin" "$work/known/include/google/protobuf"
+    ln -sf "$(command -v protoc)" "$work/known/bin/protoc"
+    cp "$checks/descriptor.proto" "$work/known/include/google/protobuf/"
+    PATH=$work/known/bin:$PATH
+}
+
+# each_case COMMAND..: runs it with the options of each case that changes what is indexed (pair_options.py).
+each_case() {
+    local line words
+    while IFS= read -r line; do
+        eval "words=($line)"
+        "$@" "${words[@]}"
+    done < <(python3 "$checks/pair_options.py")
+}
+
+# in_parts COUNT ROOT OPTION..: the sources that are listed in $work/all are cut by chance into so many parts, of which
+# each is indexed; and their indexes, joined, are $work/whole.
+in_parts() {
+    local count=$1 root=$2 part said=''
+    shift 2
+    rm -f "$work"/part.*
+    shuf --random-source=<(yes) "$work/all" | awk -v count="$count" -v front="$work/part." '
+        { print >(front ((NR * 7919 % 104729) % count) ".list") }'
+    for part in "$work"/part.*.list; do
+        run index --sources "$part" "$@" "$root" "${part%.list}.index"
+        [ "$status" = 0 ] && [ ! -s "$work/err" ] || said="$said$(head -n 1 "$work/err") "
+    done
+    verdict "$root in $count parts, $*: what they say" '' "$said"
+    # shellcheck disable=SC2046
+    run join "$work/joined" $(printf '%s\n' "$work"/part.*.index | sort)
+    same "$root in $count parts, $*: join" 0 '' ''
+    verdict "$root in $count parts, $*" '' "$(cmp "$work/whole" "$work/joined" 2>&1)"
+    rm -f "$work"/part.*
+}
+
+# parts_of COUNTS ROOT OPTION..: the index of a tree without faults, and those of its parts.
+parts_of() {
+    local counts=$1 root=$2 count
+    shift 2
+    run index "$@" "$root" "$work/whole"
+    given "$root, $*: one run" 0 ''
+    (cd "$root" && find . -type f -name '*.proto' | sed 's/^..//') >"$work/all"
+    run index --sources "$work/all" "$@" "$root" "$work/joined"
+    same "$root, $*: a list of all" 0 '' ''
+    verdict "$root, $*: a list of all, bytes" '' "$(cmp "$work/whole" "$work/joined" 2>&1)"
+    for count in $counts; do
+        in_parts "$count" "$root" "$@"
+    done
+}
+
+# parts_if_good COUNTS ROOT OPTION..: `parts_of`, if the tree has no fault with these options.
+parts_if_good() {
+    run index "${@:3}" "$2" "$work/whole"
+    [ "$status" != 0 ] || [ -s "$work/err" ] || parts_of "$@"
+}
+
 # ---- trees of sources
 
 # make_tree: sets tree to an empty folder that everybody may read.

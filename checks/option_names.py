@@ -1,5 +1,6 @@
 """What names in options name: a slow reference for `index --options link`, written from what the language
-specifications say and protoc 3.21 does. It looks up each name in all that its file sees.
+specifications say and protoc 3.21 does. It looks up each name in all that its file sees, and the fields of messages in
+all that its imports lead to.
 
 Needs python3 alone.
 """
@@ -20,21 +21,49 @@ class Tree:
     """Sources and included files, and what names in their options name."""
 
     def __init__(self, files, sources):
-        self.files, self.seen = {file.path: file for file in files}, {}
-        reached = set().union(*(self.visible(self.files[path]) for path in sources)) if sources else set()
-        owners = {}
+        self.files, self.seen, self.owners = {file.path: file for file in files}, {}, {}
         for file in files:
             for declaration in file.declarations:
-                owners.setdefault(declaration.full_name, []).append(declaration)
-        self.owners = owners
-        self.counted = reached | {
-            file.path for file in files
-            if all(len(owners[declaration.full_name]) == 1 for declaration in file.declarations)}
-        beside = reached | {DESCRIPTOR}
-        if DESCRIPTOR in self.files and all(
-                sum(other.source.path in beside for other in owners[declaration.full_name]) == 1
-                for declaration in self.files[DESCRIPTOR].declarations):
-            self.counted.add(DESCRIPTOR)
+                self.owners.setdefault(declaration.full_name, []).append(declaration)
+        self.left_out = self.clashing(sources)
+
+    def clashing(self, sources):
+        """The files that are left out: of those that count, in order, each with a name that is taken."""
+        left_out, reached, items = set(), set(), {}
+        for path in sorted(sources, key=str.encode) + sorted(set(self.files) - set(sources), key=str.encode):
+            if path not in sources and path not in reached:
+                continue
+            own, package = {}, self.files[path].package.split(".")
+            for name in [".".join(package[:number + 1]) for number in range(len(package) if package[0] else 0)]:
+                own[name] = "package"
+            names = [declaration.full_name for declaration in self.files[path].declarations]
+            if len(set(names) | set(own)) < len(names) + len(own) or any(name in items for name in names) or any(
+                    items.get(name, "package") != "package" for name in own):
+                left_out.add(path)
+                continue
+            items.update({name: "declaration" for name in names}, **own)
+            if path in sources:
+                reached |= self.reached(self.files[path])
+        return left_out
+
+    def leads(self, path):
+        """The paths of the files that are there to which imports of any kind lead, from this one."""
+        found, rest = set(), [path]
+        while rest:
+            at = rest.pop()
+            if at not in found and at in self.files:
+                found.add(at)
+                rest += [other for _, other in self.files[at].imports]
+        return found
+
+    def options_files(self, file):
+        """Where a file has the messages of its options: in what its imports lead to, or else in descriptor.proto."""
+        found = {declaration.source.path for declaration in self.owners.get("google.protobuf.FileOptions", ())
+                 if declaration.kind == "message"} & self.leads(file.path)
+        return found or {DESCRIPTOR} & set(self.files)
+
+    def reached(self, file):
+        return self.leads(file.path).union(*map(self.leads, self.options_files(file)))
 
     def visible(self, file):
         """The paths of the files that a file sees: itself, what it imports, and what those import publicly."""
@@ -47,7 +76,8 @@ class Tree:
         return found
 
     def known(self, file):
-        """What has a name in the files that a file sees: the kind, and the declaration if it is one."""
+        """What has a name in the files that a file sees: the kind, and the declaration, if it is one alone, of a file
+        that is kept."""
         if file.path not in self.seen:
             names = {}
             for path in sorted(self.visible(file)):
@@ -55,7 +85,8 @@ class Tree:
                 for number in range(len(words) if words[0] else 0):
                     names[".".join(words[:number + 1])] = ("package", None)
                 for declaration in self.files[path].declarations:
-                    names[declaration.full_name] = (declaration.kind, declaration)
+                    is_alone = declaration.full_name not in names and path not in self.left_out
+                    names[declaration.full_name] = (declaration.kind, declaration if is_alone else None)
             self.seen[file.path] = names
         return self.seen[file.path]
 
@@ -83,7 +114,8 @@ class Tree:
         return field.outer
 
     def messages_named(self, full_name):
-        return [found for found in self.owners.get(full_name, ()) if found.kind == "message"]
+        return [found for found in self.owners.get(full_name, ())
+                if found.kind == "message" and found.source.path not in self.left_out]
 
     def given_by(self, use, declaration):
         """In what names are looked up that belong to something of this type."""
@@ -130,9 +162,11 @@ class Tree:
         name, in_braces, (kind, what) = option.names[number], number >= option.parts, context
         word, extended, messages = name.words[0], [], []
         if kind == "options":
-            extended = self.messages_named(f"google.protobuf.{option.element}Options")
-            messages = [found for found in extended if found.source.path == DESCRIPTOR] or extended
-            if name.role == "field" and len(messages) != 1:
+            extended, within = self.messages_named(f"google.protobuf.{option.element}Options"), self.options_files(file)
+            messages = [found for found in extended if {found.source.path} == within]
+            if name.role == "field" and not messages and (len(within) > 1 or within & self.left_out):
+                return None, True, ("nowhere", None)
+            if name.role == "field" and not messages:
                 return None, False, ("untold", None)
         elif kind == "message":
             extended = messages = [what]
@@ -182,6 +216,6 @@ class Tree:
             links = list(zip(option.names, self.link(file, option)))
             gaps |= set([name.start for name, (_, is_gap) in links if is_gap][:1])
             for name, (target, _) in links:
-                if target and target.source.path in self.counted:
+                if target:
                     found |= {(at, at + len(word), symbol) for at, word, symbol in self.components(name, target)}
         return found, gaps

@@ -11,12 +11,14 @@ TOKEN = re.compile(r"(?P<gap>\s+|//[^\n]*|/\*.*?\*/)|(?P<word>[A-Za-z_]\w*)|(?P<
 SCALARS = frozenset("double float int32 int64 uint32 uint64 sint32 sint64 fixed32 fixed64 sfixed32 sfixed64 bool "
                     "string bytes".split())
 MAX_DEPTH = 64
+# By which `protoc` finds what is packed.
+DOMAINS = ("type.googleapis.com", "type.googleprod.com")
 # What a declaration's symbol has behind its name.
 ENDS = {"message": "#", "enum": "#", "service": "#", "field": ".", "value": ".", "oneof": ":", "method": "()."}
 
 
 class Malformed(Exception):
-    """What is read is no source, or no message of the text format."""
+    """What is read is no source, or no field's name."""
 
 
 def joined(scope, name):
@@ -24,8 +26,8 @@ def joined(scope, name):
 
 
 class Name:
-    """A name in an option: its role (`field`, `extension`, `packed` or `value`), the number of the name that it belongs
-    to, whether a dot leads, and its words with their offsets."""
+    """A name in an option: its role (`field`, `extension`, `packed`, `elsewhere` or `value`), the number of the name
+    that it belongs to, whether a dot leads, and its words with their offsets."""
 
     def __init__(self, role, owner, has_dot, words, start):
         self.role, self.owner, self.has_dot, self.start = role, owner, has_dot, start
@@ -97,13 +99,6 @@ class Reader:
     def is_kind(self, *kinds):
         return self.peek()[0] in kinds
 
-    def pass_braces(self):
-        """Takes all up to the `}` that closes what is open."""
-        depth = 1
-        while depth:
-            sign = self.take()
-            depth += (sign[:2] == ("sign", "{")) - (sign[:2] == ("sign", "}"))
-
     # ---- options
 
     def option(self, element, scope, field=None):
@@ -134,14 +129,8 @@ class Reader:
             names.append(Name("value", owner, False, self.dotted(), start))
         elif self.is_kind("text"):
             self.texts()
-        elif self.passes("{"):
-            begun, known = self.at, len(names)
-            try:
-                self.message(names, owner, "}", MAX_DEPTH)
-            except Malformed:
-                # No message of the text format: read past.
-                self.at, names[known:] = begun, []
-                self.pass_braces()
+        elif self.sees("{"):
+            self.message(names, owner, MAX_DEPTH)
         else:
             self.passes("-") or self.passes("+")
             self.take()
@@ -151,53 +140,87 @@ class Reader:
         while self.is_kind("text"):
             self.take()
 
-    def message(self, names, owner, closing, levels):
-        if levels == 0:
-            raise Malformed("too deep")
-        while not self.passes(closing):
-            number, start = len(names), self.peek()[2]
+    # ---- messages in values: what the text format has nothing of is passed
+
+    def is_sign(self, signs, further=0):
+        kind, text, _ = self.peek(further)
+        return kind == "sign" and text in signs
+
+    def pass_one(self):
+        """Takes a token, and what it opens: up to the `}` that closes a `{`, or to what closes a `[` or a `<`, whose
+        braces are apart; but no `}` that closes what is around."""
+        braces, brackets = int(self.is_sign("{")), int(self.is_sign("[<"))
+        self.at += 1
+        while (braces or brackets and not self.is_sign("}")) and not self.is_kind("end"):
+            brackets += 0 if braces else self.is_sign("[<") - self.is_sign("]>")
+            braces += self.is_sign("{") - self.is_sign("}")
+            self.at += 1
+
+    def is_whole(self, further=0):
+        """Whether a word is next that may be a value."""
+        return self.peek(further)[0] == "word" and not self.is_sign("./-+=:{<", further + 1)
+
+    def pass_odd(self):
+        """Takes one thing that no field begins with; a sign, with the word or the brackets that belong to it."""
+        has_word = self.peek(1)[0] == "word" and self.is_sign("./-+=") or self.is_whole(1) and self.is_sign(":")
+        if has_word or self.is_sign("./-+=:") and self.is_sign("{[<", 1):
+            self.at += 1
+        self.pass_one()
+
+    def field_name(self, owner):
+        """The name of a field that begins here, or None."""
+        begun = self.at
+        try:
             if self.passes("["):
                 words, role = self.dotted(), "extension"
                 if self.passes("/"):
-                    words, role = self.dotted(), "packed"
+                    domain = ".".join(word for word, _ in words)
+                    words, role = self.dotted(), "packed" if domain in DOMAINS else "elsewhere"
                 self.take("]")
-                names.append(Name(role, owner, False, words, words[0][1]))
             else:
-                names.append(Name("field", owner, False, [self.take(kind="word")[1:]], start))
-            self.field_value(names, number, levels)
-            self.passes(",") or self.passes(";")
+                words, role = [self.take(kind="word")[1:]], "field"
+        except Malformed:
+            words = None
+        if words and self.is_sign(":[{<"):
+            return Name(role, owner, False, words, words[0][1])
+        self.at = begun
+        return None
+
+    def message(self, names, owner, levels):
+        """A message with its braces."""
+        if levels == 0:
+            self.pass_one()
+            return
+        closing = ">" if self.is_sign("<") else "}"
+        self.at += 1
+        while not self.is_sign(closing + "}") and not self.is_kind("end"):
+            name = self.field_name(owner)
+            if not name:
+                self.pass_odd()
+                continue
+            names.append(name)
+            self.passes(":")
+            self.field_value(names, len(names) - 1, levels - 1)
+        self.passes(closing)
 
     def field_value(self, names, owner, levels):
-        has_colon = self.passes(":")
-        at = 1 if self.sees("[") else 0
-        is_message = not has_colon or self.peek(at)[:2] in (("sign", "{"), ("sign", "<"))
-        if not at:
-            self.item(names, owner, is_message, levels)
+        if not self.passes("["):
+            self.item(names, owner, levels)
             return
-        self.take("[")
-        if not self.sees("]"):
-            self.item(names, owner, is_message, levels)
-            while self.passes(","):
-                self.item(names, owner, is_message, levels)
-        self.take("]")
+        while not self.is_sign("]}>") and not self.is_kind("end"):
+            self.item(names, owner, levels) or self.pass_odd()
+        self.passes("]")
 
-    def item(self, names, owner, is_message, levels):
-        if is_message:
-            closing = ">" if self.passes("<") else "}"
-            if closing == "}":
-                self.take("{")
-            self.message(names, owner, closing, levels - 1)
-        elif self.is_kind("word"):
-            start = self.peek()[2]
-            names.append(Name("value", owner, False, [self.take()[1:]], start))
-        elif self.is_kind("text"):
-            self.texts()
-        elif self.passes("-"):
-            if not self.is_kind("word", "number"):
-                raise Malformed(self.peek())
-            self.take()
+    def item(self, names, owner, levels):
+        """Takes a message, or a word as a value, if one is next."""
+        if self.is_sign("{<"):
+            self.message(names, owner, levels)
+        elif self.is_whole():
+            names.append(Name("value", owner, False, [self.peek()[1:]], self.peek()[2]))
+            self.at += 1
         else:
-            self.take(kind="number")
+            return False
+        return True
 
 
 class Source(Reader):

@@ -57,6 +57,15 @@ SCOPES = head() + "".join(extending(kind) if kind == "Message" else extending(ki
 }
 """
 OWN = {"other.proto": 'syntax = "proto2"; package google.protobuf; message FieldOptions { optional bool lazy = 1; }'}
+# Included files of which one imports in private what has the type of its option.
+RULES = {"o/rule.proto": 'syntax = "proto3"; package o; message Rule { string get = 1; Rule more = 2; }',
+         "o/options.proto": 'syntax = "proto2"; package o; import "google/protobuf/descriptor.proto"; '
+                            'import "o/rule.proto"; ' + extending("File", "rule", "Rule")}
+RULE = 'syntax = "proto3"; import "o/options.proto"; option (o.rule) = { get: "a" more { get: "b" } };'
+RULE_NAMES = "o/ o/rule. o/Rule#get. o/Rule#more. o/Rule#get."
+OTHER_RULE = 'syntax = "proto3"; package o; message Rule {}'
+COPY = ('syntax = "proto2"; package google.protobuf; message FileOptions { optional string mine = 1; } '
+        "message FieldOptions { optional bool lazy = 1; }")
 
 # The name of a tree, its sources, its included files, the symbols of what the options of a.proto name, in order of
 # place, and the words that have no target. Symbols stand without what is in front of each, `scip-protobuf . . . `.
@@ -103,11 +112,33 @@ WORKED = (
      "google/protobuf/FieldOptions#lazy.", "gone"),
     ("the same with one that a source sees",
      {"a.proto": 'syntax = "proto3"; import "other.proto"; message M { int32 f = 1 [lazy = true, gone = 1]; }'},
-     {**EXPORTS, **OWN}, "", "gone"),
+     {**EXPORTS, **OWN}, "google/protobuf/FieldOptions#lazy.", "gone"),
     ("the same where a source sees descriptor.proto",
      {"a.proto": 'syntax = "proto3"; import "google/protobuf/descriptor.proto"; '
                  "message M { int32 f = 1 [lazy = true]; }"}, {**EXPORTS, **OWN},
      "google/protobuf/FieldOptions#lazy.", ""),
+    ("a type behind a private import of an included file", {"a.proto": RULE}, {**EXPORTS, **RULES}, RULE_NAMES, ""),
+    ("the same beside another file with its name", {"a.proto": RULE},
+     {**EXPORTS, **RULES, "other.proto": OTHER_RULE}, RULE_NAMES, ""),
+    ("the same beside copies of both files", {"a.proto": RULE},
+     {**EXPORTS, **RULES, **{f"copy/{path}": text for path, text in RULES.items()}}, RULE_NAMES, ""),
+    ("the same where a source has its name", {"a.proto": RULE, "0.proto": OTHER_RULE}, {**EXPORTS, **RULES},
+     "o/ o/rule.", "get"),
+    ("a copy of descriptor.proto that an import leads to",
+     {"a.proto": 'syntax = "proto3"; import "b.proto"; option mine = "x"; option java_package = "y"; '
+                 "message M { int32 f = 1 [lazy = true]; }", "b.proto": 'syntax = "proto3"; import "copy.proto";'},
+     {**EXPORTS, "copy.proto": COPY}, "google/protobuf/FileOptions#mine. google/protobuf/FieldOptions#lazy.",
+     "java_package"),
+    ("the same where the copy is a source",
+     {"a.proto": 'syntax = "proto3"; import "b.proto"; option mine = "x";', "copy.proto": COPY,
+      "b.proto": 'syntax = "proto3"; import "copy.proto";'}, EXPORTS, "google/protobuf/FileOptions#mine.", ""),
+    ("a copy that no import leads to", {"a.proto": 'syntax = "proto3"; option java_package = "x"; option mine = "y";'},
+     {**EXPORTS, "copy.proto": COPY}, "google/protobuf/FileOptions#java_package.", "mine"),
+    ("two copies", {"a.proto": 'syntax = "proto3"; import "copy.proto"; import "other.proto"; option mine = "x";'},
+     {**EXPORTS, "copy.proto": COPY, "other.proto": COPY}, "", "mine"),
+    ("a copy that is left out",
+     {"a.proto": 'syntax = "proto3"; package google.protobuf; import "copy.proto"; message FieldOptions {} '
+                 'option mine = "x";'}, {**EXPORTS, "copy.proto": COPY}, "", "mine"),
     ("a default", {"a.proto": head() + "enum E { V = 0; W = 1; } message M { optional E e = 1 [default = W]; "
                                        "optional E g = 2 [default = X, deprecated = true]; }"}, EXPORTS,
      "p/E#W. google/protobuf/FieldOptions#deprecated.", "X"),
@@ -126,8 +157,20 @@ WORKED = (
      "p/x. p/T#m. p/N#e. p/E#W.", ""),
     ("an unknown field in braces", {"a.proto": BRACES + "option (x) = { n { zz: 1 } es: Z };"}, EXPORTS,
      "p/x. p/T#n. p/T#es.", "zz"),
-    ("braces that are no message", {"a.proto": BRACES + "option (x) = { n { i: 1 } 2: 3 }; option (x).n = { { } };"},
-     EXPORTS, "p/x. p/x. p/T#n.", ""),
+    ("a field number in braces", {"a.proto": BRACES + "option (x) = { n { i: 1 } 2: 3 es: W }; "
+                                              "option (x).n = { 1: { i: 2 } e: W };"}, EXPORTS,
+     "p/x. p/T#n. p/N#i. p/T#es. p/E#W. p/x. p/T#n. p/N#e. p/E#W.", ""),
+    ("braces without a name", {"a.proto": BRACES + "option (x).n = { { i: 1 } i: 2 };"}, EXPORTS,
+     "p/x. p/T#n. p/N#i.", ""),
+    ("an enum's word with a dot", {"a.proto": BRACES + "option (x) = { es: p.W n { e: .p.E.W, i: 1 } es: [p.V, W] };"},
+     EXPORTS, "p/x. p/T#es. p/T#n. p/N#e. p/N#i. p/T#es. p/E#W.", ""),
+    ("separators twice", {"a.proto": BRACES + "option (x) = { n { i: 1,, e: W; ; ns { } } , es: V };"}, EXPORTS,
+     "p/x. p/T#n. p/N#i. p/N#e. p/E#W. p/N#ns. p/T#es. p/E#V.", ""),
+    ("the domains of Any", {"a.proto": BRACES + "option (x) = { any { [type.googleprod.com/p.N] { i: 1 } "
+                                        "[example.com/p.N] { i: 1 } } };"}, EXPORTS,
+     "p/x. p/T#any. p/ p/N# p/N#i.", "p.N"),
+    ("two paths in Any", {"a.proto": BRACES + "option (x) = { any { [type.googleapis.com/x/p.N] { i: 1 } } n { } };"},
+     EXPORTS, "p/x. p/T#any. p/T#n.", ""),
     ("a type that isn't there", {"a.proto": head() + extending("File", "x", "Gone") + "option (x).y = 1;"}, EXPORTS,
      "p/x.", "y"),
 )
@@ -153,12 +196,14 @@ def joined(scope, name):
 
 
 class Maker:
-    """A tree, made by chance: t.proto has types; c.proto and b.proto have extensions; a.proto has options, each on a
-    line of its own. `taken` are the full names, `extensions` those with what they extend and their types."""
+    """A tree, made by chance: t.proto and s.proto have types; c.proto and b.proto have extensions; a.proto has options,
+    each on a line of its own, and doesn't see s.proto. Some are sources, some included, beside files that nothing leads
+    to. `taken` are the full names, `extensions` those with what they extend and their types."""
 
     def __init__(self, chance):
         self.chance, self.taken, self.extensions, self.number = chance, set(), [], 50000
         pick = chance.choice
+        self.descriptor = pick(("google/protobuf/descriptor.proto",) * 2 + ("copy/descriptor.proto",))
         self.packages = {"a": pick(("", "p", "p.q", "p.q.r", "q")), "b": pick(("", "p", "p.q", "q", "x", "q.p")),
                          "c": pick(("p", "q", "p.q", "p.x", "M", "p.q.x"))}
         for package in self.packages.values():
@@ -167,12 +212,21 @@ class Maker:
         bodies = {letter: self.file(letter) for letter in "cba"}
         imports = {"c": "", "b": pick(("", 'import "c.proto";', 'import public "c.proto";')),
                    "a": pick(('import "b.proto";', 'import "b.proto"; import "c.proto";'))}
-        self.files = {"t.proto": T}
+        types = T.replace("import", f'import "{self.descriptor}"; import', 1)
+        self.files, self.included = {"t.proto": types, "s.proto": types.replace(" t;", " s;")}, dict(EXPORTS)
         for letter, body in bodies.items():
             package = f"package {self.packages[letter]}; " if self.packages[letter] else ""
             self.files[f"{letter}.proto"] = "\n".join(
-                [f'syntax = "proto2"; {package}import "google/protobuf/descriptor.proto"; import "t.proto"; '
-                 + imports[letter], *body, ""])
+                [f'syntax = "proto2"; {package}import "{self.descriptor}"; import "t.proto"; ' + imports[letter]
+                 + 'import "s.proto"; ' * (letter != "a"), *body, ""])
+        for path in chance.sample(("b.proto", "c.proto", "s.proto", "t.proto"), chance.randint(0, 4)):
+            self.included[path] = self.files.pop(path)
+        self.included[self.descriptor] = DESCRIPTOR
+        for path in chance.sample(("b.proto", "c.proto", "s.proto", "t.proto"), chance.randint(0, 2)):
+            self.included[f"other/{path}"] = {**self.files, **self.included}[path]
+        if self.descriptor in EXPORTS and chance.random() < 0.3:
+            self.files["v.proto"] = 'syntax = "proto3"; package a; option java_package = "x"; message M {}'
+            self.files["w.proto"] = self.files["v.proto"]
 
     def is_free(self, scope, name):
         """Takes a full name, if nothing has it."""
@@ -187,7 +241,7 @@ class Maker:
             return []
         self.number += 1
         extended = self.chance.choice((*KINDS, "T", "T", "T", "T"))
-        kind = self.chance.choice(("int32", "int32", ".t.T", ".t.E"))
+        kind = self.chance.choice(("int32", "int32", ".t.T", ".t.E") + (".s.T", ".s.E") * (self.letter != "a"))
         self.extensions.append((joined(scope, name), extended, kind))
         message = ".t.T" if extended == "T" else f"google.protobuf.{extended}Options"
         return [f"extend {message} {{ optional {kind} {name} = {self.number}; }}"]
@@ -204,36 +258,40 @@ class Maker:
             return "." + full, kind
         return ".".join(words[chance.randrange(len(words)) if chance.random() < 0.3 else 0:]), kind
 
-    def braces(self, depth=0):
+    def braces(self, kind=".t.T", depth=0):
         """Fields of a T, most of them good ones."""
         found = []
         for field in self.chance.sample(GOOD, self.chance.randint(0, 4)):
-            if any(other[0] == field[0] != "e" for other in found):
+            if any(other[0] == field[0] != "e" for other in found) or "@" in field and kind == ".s.T":
                 continue
             if "@" in field:
                 full = self.named("T")[0]
                 field = field.replace("@", full.lstrip("."))
             elif "%s" in field:
-                field = field % (self.braces(depth + 1) if depth < 3 else "")
+                inner = ".t.T" if field.startswith("any") else kind
+                field = field % (self.braces(inner, depth + 1) if depth < 3 else "")
             found.append(field + self.chance.choice(("", ",", ";")))
         if self.chance.random() < 0.06:
             found.append(self.chance.choice(BAD))
         return " ".join(found)
 
     def value(self, kind):
-        if kind == ".t.T":
-            return f"{{ {self.braces()} }}"
-        return self.chance.choice(("V", "W", "W", "Z")) if kind == ".t.E" else "1"
+        if kind in (".t.T", ".s.T"):
+            return f"{{ {self.braces(kind)} }}"
+        return self.chance.choice(("V", "W", "W", "Z")) if kind in (".t.E", ".s.E") else "1"
 
     def option(self, element):
+        if self.chance.random() < 0.12:
+            return self.chance.choice(("deprecated = true", "deprecated = true", "deprecated = true", "gone = 1"))
         name, kind = self.named(element)
-        if kind != ".t.T" or self.chance.random() < 0.5:
+        if kind not in (".t.T", ".s.T") or self.chance.random() < 0.5:
             return f"({name}) = {self.value(kind)}"
         part = self.chance.choice(("i", "n.i", "g.gi", "e", "o", "n", "n.n.e", "G.gi", "x", "", "n."))
         if part in ("", "n."):
             further, kind = self.named("T")
             return f"({name}).{part}({further}) = {self.value(kind)}"
-        return f"({name}).{part} = {self.value({'e': '.t.E', 'n': '.t.T'}.get(part[-1], 'int32'))}"
+        kinds = {"e": kind[:2] + ".E", "n": kind}
+        return f"({name}).{part} = {self.value(kinds.get(part[-1], 'int32'))}"
 
     def statement(self, element, likely=1.0):
         return [f"option {self.option(element)};"] if self.chance.random() < likely else []
@@ -274,7 +332,7 @@ class Maker:
                 *self.statement("Method"), "}", "}"]
 
     def file(self, letter):
-        has_options, package = letter == "a", self.packages[letter]
+        has_options, package, self.letter = letter == "a", self.packages[letter], letter
         lines = self.statement("File") if has_options else []
         kinds = ("message", "extend", "service", "enum") if has_options else ("message",) + ("extend",) * 4
         for number in range(self.chance.randint(5, 9) if has_options else self.chance.randint(8, 14)):

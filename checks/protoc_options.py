@@ -74,14 +74,6 @@ class Schema:
         self.fields[holder][number] = Field(symbol, field, self.syntax)
         self.named[symbol] = ("field", holder, number)
 
-    def without_own(self):
-        """Leaves out the fields that the messages of options have in descriptor.proto."""
-        for message, known in self.fields.items():
-            if re.fullmatch(r"google\.protobuf\.\w+Options", message):
-                own = f"{SYMBOL}google/protobuf/{message.rpartition('.')[2]}#"
-                self.fields[message] = {number: field for number, field in known.items()
-                                        if not field.symbol.startswith(own)}
-
     def pieces_of(self, message, data):
         """What the fields of a message are written as, by their numbers. A set of messages is written as items, each
         with a field's number and a message."""

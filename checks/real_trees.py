@@ -1,17 +1,20 @@
-"""How an index of a folder as it lies, by `index --real`, is compared: what `try_packages` and `try_accept` share.
+"""How an index of a folder as it lies, by `index --real`, is compared, and how those of its parts are: what
+`try_packages` and `try_accept` share.
 
 Needs what packages.py needs.
 """
 
 import collections
 import os
+import random
 import re
 
-from packages import PROGRAM, SYMBOL, Told, numbers, occurrences_in, run, see_source, sources_below, text_of
+from packages import PROGRAM, SYMBOL, Told, occurrences_in, run, see_source, sources_below, text_of
+from pair_options import rows_of_bytes, words_of
+from pair_runs import has_fronts
 from protoc_options import Schema, descriptor_of_options, options_of, see_options
 
 DESCRIPTOR = "google/protobuf/descriptor.proto"
-COPY = re.compile(rb"\bpackage\s+google\.protobuf\s*;.*^message\s+FileOptions\b", re.S | re.M)
 FRONT = re.compile(re.escape(SYMBOL) + "`([^`]+)`/(.+)")
 
 
@@ -19,29 +22,6 @@ def without_front(symbol):
     """The file that a declaration's symbol has in front, if any, and the symbol without it."""
     front = FRONT.fullmatch(symbol)
     return (front[1], SYMBOL + front[2]) if front else (None, symbol)
-
-
-def visible(protoc, path):
-    """The files that a source sees, by the descriptors that protoc gives."""
-    found, rest = {path}, list(protoc.imports[path])
-    while rest:
-        other = rest.pop()
-        if other not in found and other in protoc.records:
-            found.add(other)
-            rest += [protoc.imports[other][number] for number in numbers(protoc.records[other][10])]
-    return found
-
-
-def counts(protoc, folders):
-    """Whether names in options may name what descriptor.proto declares: a source sees it, or none sees a copy."""
-    seen = set().union(*(visible(protoc, path) for path in protoc.found))
-    if DESCRIPTOR in seen:
-        return True
-    files = {}
-    for folder in folders:
-        for path in sources_below(folder):
-            files.setdefault(path, os.path.join(folder, path))
-    return not any(path in seen and COPY.search(text_of(at)) for path, at in files.items())
 
 
 def see_real(verdicts, name, root, included, protoc, room):
@@ -60,9 +40,6 @@ def see_real(verdicts, name, root, included, protoc, room):
     twice = {symbol: paths for symbol, paths in defined.items() if len(paths) > 1}
     verdicts.see(f"{name}: --real: a symbol is that of one declaration", not twice, twice)
     schema, count = Schema([descriptor_of_options(room), *protoc.records.values()]), 0
-    if not counts(protoc, [root, *included]):
-        print("  a source sees a copy of descriptor.proto, and none sees it: what it declares isn't named")
-        schema.without_own()
     for path, descriptor in protoc.found.items():
         verdicts.see(f"{name}: --real: {path}: indexed", path in documents, told.skipped.get(path))
         options, shown, named, wrong = options_of(descriptor), [], set(), []
@@ -88,3 +65,31 @@ def see_real(verdicts, name, root, included, protoc, room):
         count += len(options)
     print(f"  --real: {len(documents)} sources indexed, {len(told.skipped)} skipped; protoc reads {len(protoc.found)}, "
           f"with {count} options", flush=True)
+
+
+def see_parts(verdicts, name, root, included, room, count=4):
+    """Cuts a root's sources by chance, and indexes each part: joined, that is the one run, if nothing is told of that,
+    and no name is declared by several files. This with each option that changes what is indexed, of proto2, too."""
+    tried, differing, listed = 0, 0, os.path.join(room, "part.list")
+    for row in rows_of_bytes():
+        row = row if "--real" in row else {"--accept": ("all",), **row}
+        words = [*words_of(row), *(f"--include={folder}" for folder in included), root]
+        whole, parts, wrong = os.path.join(room, "whole"), [], []
+        done = run([PROGRAM, "index", *words, whole])
+        if done.returncode != 0 or done.stderr or has_fronts(text_of(whole)):
+            continue
+        paths = sources_below(root)
+        random.Random(len(paths)).shuffle(paths)
+        for number in range(count):
+            with open(listed, "w", encoding="utf-8") as file:
+                file.writelines(f"{path}\n" for path in paths[number::count])
+            parts.append(os.path.join(room, f"part.{number}"))
+            done = run([PROGRAM, "index", f"--sources={listed}", *words, parts[-1]])
+            wrong += done.stderr.decode().splitlines()
+        joined = os.path.join(room, "joined")
+        done = run([PROGRAM, "join", joined, *parts])
+        is_same = done.returncode == 0 and text_of(joined) == text_of(whole)
+        tried, differing = tried + 1, differing + (not is_same or bool(wrong))
+        verdicts.see(f"{name}: {' '.join(words_of(row))}: {count} parts", is_same and not wrong,
+                     (f"{len(wrong)} lines", wrong[:3], done.stderr))
+    print(f"  in {count} parts: {tried} sets of options without a fault, of which {differing} differ", flush=True)

@@ -6,10 +6,11 @@ use Rattle.fault_reports.specs.declared.finding.FindingKind.{FindingKind}
 use Rattle.fault_reports.specs.declared.finding.FindingKind.TheVariants.{Fault, Skipped, Unresolved, Uncertain}
 use Rattle.fault_reports.specs.declared.finding.Point.{Point}
 
--- a file, what it holds, and how many bytes of that come before a place, and before its end, if that is known; without
+-- a file by its path, as it is shown and as it is in bytes; what it holds, and how many bytes of that come before a place, and before its end, if that is known; without
 -- an offset, the whole file
 pub record FoundPlace : Type 0 where
   pub path : List ℕ
+  pub bytes : List ℕ
   pub text : List ℕ
   pub offset : Option ℕ
   pub end : Option ℕ

@@ -44,11 +44,11 @@ abbrev pub region_members : (start end : Option Point) → Members
 region_members None end = no_members
 region_members (Some start) end = member (codes "region") (region_value start end) no_members
 
--- a file by its path, escaped as a relative reference is (3.4.3), and a place of it (3.29)
+-- a file by the bytes of its path, escaped as a relative reference is (3.4.3), and a place of it (3.29)
 abbrev pub physical_value : FoundPlace → Data
 physical_value place = object
     (member (codes "artifactLocation")
-    (object (member (codes "uri") (string (percent_encode ESCAPED place.path)) no_members))
+    (object (member (codes "uri") (string (percent_encode ESCAPED place.bytes)) no_members))
     (region_members (start_of place) (end_of place)))
 
 -- where a finding is (3.28), none if it is of no file

@@ -1,6 +1,6 @@
 //! What a report tells.
 
-ghost use Rattle.std.specs.Prelude.{◌≡◌};
+ghost use Rattle.std.specs.Prelude.{◌≡◌, [], None};
 ghost use Rattle.std.specs.Option.{option_and_then, option_map};
 ghost use Rattle.fault_reports.specs.Findings.{
   column_at,
@@ -39,11 +39,12 @@ pub(crate) struct Point {
 
 /// A file, and a place in it.
 ///
-/// Contracts see its path and its text as lists of bytes, and of where it begins and where it ends how many bytes come
-/// before.
+/// Contracts see its path, also as it is in bytes, and its text as lists of bytes, and of where it begins and where it
+/// ends how many bytes come before.
 #[derive(Drop)]
 pub struct Place<'a> {
     path: &'a str,
+    bytes: &'a [u8],
     text: &'a [u8],
     start: Option<Point>,
     end: Option<Point>,
@@ -58,6 +59,7 @@ impl<'a> Model for Place<'a> {
 
     ghost view = { λ place. record {
       path = place.path.now;
+      bytes = place.bytes.now;
       text = place.text.now;
       offset = option_map (λ point. point.at) place.start;
       end = option_map (λ point. point.at) place.end;
@@ -183,6 +185,7 @@ impl<'a> Place<'a> {
         end: Option<usize>,
     ) -> Place<'a>
         ensures path { result.path ≡ path.now }
+        ensures bytes { result.bytes ≡ path.now }
         ensures text { result.text ≡ counter.old }
         ensures offset { result.offset ≡ offset }
         ensures end { result.end ≡ end }
@@ -192,9 +195,23 @@ impl<'a> Place<'a> {
         let end = point_of(counter, end);
         Place {
             path,
+            bytes: path.as_bytes(),
             text: counter.text(),
             start,
             end,
+        }
+    }
+
+    /// The whole of what has a path below its root that needn't be UTF-8: as it is shown, and its bytes.
+    pub fn of_entry(shown: &'a str, bytes: &'a [u8]) -> Place<'a>
+        ensures { result ≡ record { path = shown.now; bytes = bytes.now; text = []; offset = None; end = None } }
+    {
+        Place {
+            path: shown,
+            bytes,
+            text: &[],
+            start: None,
+            end: None,
         }
     }
 
@@ -203,6 +220,13 @@ impl<'a> Place<'a> {
         ensures { result.now ≡ self.now.path }
     {
         self.path
+    }
+
+    /// The bytes of its path.
+    pub(crate) fn bytes(&self) -> &'a [u8]
+        ensures { result.now ≡ self.now.bytes }
+    {
+        self.bytes
     }
 
     /// Where it begins.

@@ -48,11 +48,11 @@ fn message_value(alloc: Global, text: &str) -> Result<Value, AllocError>
 }
 
 /// A path as a relative reference.
-fn reference_to(alloc: Global, path: &str) -> Result<String, AllocError>
+fn reference_to(alloc: Global, path: &[u8]) -> Result<String, AllocError>
     ensures { IfOk result (λ text. string_bytes text ≡ percent_encode ESCAPED path.now) }
 {
     let mut text = String::new(alloc);
-    percent_encode(path.as_bytes(), ESCAPED).append_to(&mut text)?;
+    percent_encode(path, ESCAPED).append_to(&mut text)?;
     Ok(text)
 }
 
@@ -95,7 +95,7 @@ fn region_value(alloc: Global, start: Point, end: Option<Point>) -> Result<Value
 fn physical_value(alloc: Global, place: &Place<'_>) -> Result<Value, AllocError>
     ensures { IfOk result (λ value. view value ≡ physical_value place.now) }
 {
-    let uri = reference_to(alloc, place.path())?;
+    let uri = reference_to(alloc, place.bytes())?;
     match place.start() {
         Some(start) => {
             let region = region_value(alloc, start, place.end())?;

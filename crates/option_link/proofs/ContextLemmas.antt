@@ -7,7 +7,7 @@ use Rattle.proto_decl.specs.Facts.{Facts, AreOfSomeFile, NamesInOrder, UsesAreFi
 use Rattle.proto_options.specs.declared.names.OptionName.{OptionName}
 use Rattle.proto_options.specs.declared.names.OptionRole.{OptionRole}
 use Rattle.proto_options.specs.declared.options.FileOption.{FileOption}
-use Rattle.proto_visibility.specs.Files.{File, HaveOrigins, HaveOwnPaths}
+use Rattle.proto_visibility.specs.Files.{File, HaveOrigins}
 use Rattle.option_link.specs.declared.contexts.Context.{Context}
 use Rattle.option_link.specs.declared.facts.OptionFacts.{OptionFacts}
 use Rattle.option_link.specs.declared.place.DeclaredPlace.{DeclaredPlace}
@@ -36,7 +36,7 @@ same_root text option _ _ (root-taken x) (root-options not) = absurd (not x)
 same_root text option _ _ (root-options not) (root-taken y) = absurd (not y)
 same_root text option _ _ (root-options not) (root-options nor) = refl
 
-module _ (files : List File) (origins : HaveOrigins files) (paths : HaveOwnPaths files) (known : List OptionFacts)
+module _ (files : List File) (origins : HaveOrigins files) (known : List OptionFacts)
     (order : AreInOrder known) (names : (facts : Facts) → AreOfSomeFile facts → NamesInOrder facts.declarations)
     (uses : (facts : Facts) → AreOfSomeFile facts → UsesInOrder facts.uses)
     (filled : (facts : Facts) → AreOfSomeFile facts → UsesAreFilled facts.uses) where
@@ -53,32 +53,32 @@ module _ (files : List File) (origins : HaveOrigins files) (paths : HaveOwnPaths
         → Leads files known file text option number name outer a
         → Leads files known file text option number name outer b → a ≡ b
     one_lead number name outer a b (leads-named {at = at} x gives) (leads-named {at = its} y also) =
-        let same = one_named files paths known file text option number name name.role outer at its x y in
+        let same = one_named files known file text option number name name.role outer at its x y in
         place_gives name.role its a b
         (subst (λ (p : DeclaredPlace). PlaceGives files known name.role p a) same gives) also
     one_lead number name _ a _ (leads-named {at = at} x gives) (leads-key {holder = holder} acting words) =
-        absurd (none_in_entries files paths known file text option number name name.role holder at x)
+        absurd (none_in_entries files known file text option number name name.role holder at x)
     one_lead number name _ a _ (leads-named {at = at} x gives) (leads-map_value {holder = holder} acting words y) =
-        absurd (none_in_entries files paths known file text option number name name.role holder at x)
+        absurd (none_in_entries files known file text option number name name.role holder at x)
     one_lead number name _ a b (leads-named {at = at} x gives) (leads-default t acting in_file is at_place y) =
-        absurd (none_untold files paths known file text option number name name.role at x)
+        absurd (none_untold files known file text option number name name.role at x)
     one_lead number name _ a _ (leads-named {at = at} x gives) (leads-untold not acting) =
-        absurd (none_untold files paths known file text option number name name.role at x)
+        absurd (none_untold files known file text option number name name.role at x)
     one_lead number name _ a _ (leads-named {at = at} x gives) (leads-without_message acting none) =
-        absurd (none_without_message files paths known file text option number name name.role at acting none x)
+        absurd (none_without_message files known file text option number name name.role at acting none x)
     one_lead number name _ _ b (leads-key {holder = holder} acting words) (leads-named {at = at} x gives) =
-        absurd (none_in_entries files paths known file text option number name name.role holder at x)
+        absurd (none_in_entries files known file text option number name name.role holder at x)
     one_lead number name _ _ _ (leads-key acting words) (leads-key also its) = refl
     one_lead number name _ _ b (leads-key acting words) (leads-map_value also its y) =
         absurd (key_or_value (one_word text name (codes "key") (codes "value") words its))
     one_lead number name _ _ b (leads-map_value {holder = holder} acting words y) (leads-named {at = at} x gives) =
-        absurd (none_in_entries files paths known file text option number name name.role holder at x)
+        absurd (none_in_entries files known file text option number name name.role holder at x)
     one_lead number name _ a _ (leads-map_value acting words y) (leads-key also its) =
         absurd (key_or_value (one_word text name (codes "key") (codes "value") its words))
     one_lead number name _ a b (leads-map_value {holder = holder} acting words x) (leads-map_value also its y) =
         one_value_gives files origins known order uses filled holder a b x y
     one_lead number name _ a b (leads-default t acting in_file is at_place y) (leads-named {at = at} x gives) =
-        absurd (none_untold files paths known file text option number name name.role at x)
+        absurd (none_untold files known file text option number name name.role at x)
     one_lead number name _ a b (leads-default {field = f} {place = p} {fact = u} t acting in_file is at_place x)
         (leads-default {field = g} {place = q} {fact = v} s also by_file its there y) =
         let same = one_defaulted files origins known names file text option f g p q u v t s in_file by_file is its
@@ -88,12 +88,12 @@ module _ (files : List File) (origins : HaveOrigins files) (paths : HaveOwnPaths
     one_lead number name _ a _ (leads-default {place = p} t acting in_file is at_place x) (leads-untold not also) =
         absurd (not p t)
     one_lead number name _ _ b (leads-untold not acting) (leads-named {at = at} x gives) =
-        absurd (none_untold files paths known file text option number name name.role at x)
+        absurd (none_untold files known file text option number name name.role at x)
     one_lead number name _ _ b (leads-untold not acting) (leads-default {place = p} t also in_file is at_place y) =
         absurd (not p t)
     one_lead number name _ _ _ (leads-untold not acting) (leads-untold nor also) = refl
     one_lead number name _ _ b (leads-without_message acting none) (leads-named {at = at} x gives) =
-        absurd (none_without_message files paths known file text option number name name.role at acting none x)
+        absurd (none_without_message files known file text option number name name.role at acting none x)
     one_lead number name _ _ _ (leads-without_message acting none) (leads-without_message also neither) = refl
 
     pub one_context : (number : ℕ) (a b : Context) → StandsIn files known file text option number a

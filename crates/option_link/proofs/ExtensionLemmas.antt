@@ -14,7 +14,7 @@ use Rattle.proto_options.specs.declared.elements.Element.TheVariants as of_a
 use Rattle.proto_options.specs.declared.names.OptionName.{OptionName}
 use Rattle.proto_options.specs.declared.names.OptionRole.TheVariants as role
 use Rattle.proto_options.specs.declared.options.FileOption.{FileOption}
-use Rattle.proto_visibility.specs.Files.{File}
+use Rattle.proto_visibility.specs.Files.{File, IsPresent}
 use Rattle.proto_visibility.specs.Knows.NameKind.{OfDeclaration}
 use Rattle.std.proofs.lemmas.Bool.{false≢true}
 use Rattle.option_link.specs.declared.contexts.Context.{Context}
@@ -60,7 +60,7 @@ no_message_there files option message _ extended-message = refl
 
 pub options_called : (files : List File) (option : FileOption) (name : List ℕ) → name ≡ options_message option.element
     → IsExtendedName files option inside.Options name
-options_called files option name is message d (extended-options m) stands =
+options_called files option name is message d (extended-options m present) stands =
     ap (λ (x : Declaration). x.full_name) (same_declaration files message d m.declaration stands m.stands.stands)
     ∙ (m.named ∙ sym is)
 
@@ -103,8 +103,9 @@ pub untold_extends_none : (files : List File) (option : FileOption) (message : D
 untold_extends_none files option message may = elim may [ ]
 
 pub options_extended : (files : List File) (option : FileOption) (message : DeclaredPlace)
-    → MayBeExtended files option inside.Options message → IsMessageNamed files (options_message option.element) message
-options_extended files option message (extended-options is) = is
+    → MayBeExtended files option inside.Options message
+    → IsMessageNamed files (options_message option.element) message × IsPresent files message.file
+options_extended files option message (extended-options is present) = (is, present)
 
 -- ---- scopes
 
@@ -160,7 +161,7 @@ module _ (files : List File) (known : List OptionFacts) (file : ℕ) (text : Lis
   extended_clear : (outer : Context) (message : DeclaredPlace) → IsClear files outer
       → MayBeExtended files option outer message
       → (d : Declaration) × StandsAs files Message message d
-  extended_clear _ message known_clear (extended-options m) = (m.declaration, m.stands)
+  extended_clear _ message known_clear (extended-options m present) = (m.declaration, m.stands)
   extended_clear _ message known_clear extended-message = known_clear
 
   looked_from : (message : DeclaredPlace) → MayBeExtended files option context message

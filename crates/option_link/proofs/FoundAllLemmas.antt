@@ -14,7 +14,7 @@ use Rattle.proto_options.specs.declared.options.FileOption.{FileOption}
 use Rattle.proto_visibility.specs.declared.clash.Duplicates.TheVariants.{Keep}
 use Rattle.proto_visibility.specs.declared.lookup.Entity.{Entity}
 use Rattle.proto_visibility.specs.Clashes.{NoClash}
-use Rattle.proto_visibility.specs.Files.{File, HaveOrigins, HaveOwnPaths, IsSource}
+use Rattle.proto_visibility.specs.Files.{File, HaveOrigins, IsSource}
 use Rattle.proto_visibility.proofs.SeeingLemmas.{slice_get_prefix}
 use Rattle.option_link.specs.declared.contexts.Context.{Context}
 use Rattle.option_link.specs.declared.facts.OptionFacts.{OptionFacts}
@@ -134,7 +134,7 @@ module _ (files : List File) (known : List OptionFacts) (file : ℕ) (text : Lis
 
 -- ---- one more
 
-module _ (files : List File) (origins : HaveOrigins files) (paths : HaveOwnPaths files) (clear : NoClash Keep files)
+module _ (files : List File) (origins : HaveOrigins files) (clear : NoClash Keep files)
     (known : List OptionFacts) (order : AreInOrder known)
     (names : (facts : Facts) → AreOfSomeFile facts → NamesInOrder facts.declarations)
     (packages : (facts : Facts) → AreOfSomeFile facts → PackageInOrder facts)
@@ -160,7 +160,7 @@ module _ (files : List File) (origins : HaveOrigins files) (paths : HaveOwnPaths
             → MatchOption found ((d : Context) → StandsIn files known file text option number d → ⊥)
             (λ d. StandsIn files known file text option number d × IsClear files d) → context ≡ Some c
         by None is none = absurd (none c stands)
-        by (Some d) is its = is ∙ ap Some (one_context files origins paths known order names uses filled file text option
+        by (Some d) is its = is ∙ ap Some (one_context files origins known order names uses filled file text option
             number d c its.0 stands)
 
     -- it names this
@@ -183,7 +183,7 @@ module _ (files : List File) (origins : HaveOrigins files) (paths : HaveOwnPaths
         by (Some one) is some =
             let inner = same_Some some.0 place.context (sym some.1 ∙ in_this place.context place.stands) in
             let moved = subst (λ (c : Context). NamesIn files known file text option number name c one) inner some.2 in
-            is ∙ ap Some (one_named files paths known file text option number name name.role place.context one at moved its)
+            is ∙ ap Some (one_named files known file text option number name name.role place.context one at moved its)
 
     place_named : (at : DeclaredPlace) → target ≡ Some at → NamesPlace files known file text option number name at
     place_named at is =

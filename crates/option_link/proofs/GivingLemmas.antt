@@ -12,7 +12,7 @@ use Rattle.proto_options.specs.declared.names.OptionName.{OptionName}
 use Rattle.proto_options.specs.declared.names.OptionRole.{OptionRole}
 use Rattle.proto_options.specs.declared.names.OptionRole.TheVariants as role
 use Rattle.proto_options.specs.declared.options.FileOption.{FileOption}
-use Rattle.proto_visibility.specs.Files.{File, HasFacts, HaveOwnPaths}
+use Rattle.proto_visibility.specs.Files.{File, HasFacts}
 use Rattle.proto_visibility.proofs.FileFactLemmas.{one_list_of_facts}
 use Rattle.option_link.specs.declared.contexts.Context.{Context}
 use Rattle.option_link.specs.declared.contexts.Context.TheVariants as inside
@@ -45,25 +45,25 @@ use Rattle.option_link.proofs.NameLemmas.{none_in_entries, none_untold, none_wit
 module _ (files : List File) (known : List OptionFacts) (file : ℕ) (text : List ℕ) (option : FileOption)
     (name : OptionName) where
   pub needs_from : (number : ℕ) (context : Context) → StandsIn files known file text option number context
-      → NeedsNoneIn files text option name context → NeedsNoTarget files known file text option number name
+      → NeedsNoneIn files file text option name context → NeedsNoTarget files known file text option number name
   needs_from number _ stands (none-word acting) = needs-word acting stands
   needs_from number _ stands (none-entry is) = needs-entry is.plain is.is is.which stands
   needs_from number _ stands (none-untold acting) = needs-untold acting stands
-  needs_from number _ stands (none-without is) = needs-without is.plain is.none stands
+  needs_from number _ stands (none-without is) = needs-without is.plain is.lacks stands
 
   pub needs_to : (number : ℕ) (context : Context)
       → ((other : Context) → StandsIn files known file text option number other → other ≡ context)
-      → NeedsNoTarget files known file text option number name → NeedsNoneIn files text option name context
+      → NeedsNoTarget files known file text option number name → NeedsNoneIn files file text option name context
   needs_to number context one (needs-word acting stands) =
-      subst (NeedsNoneIn files text option name) (one inside.Scalar stands) (none-word acting)
+      subst (NeedsNoneIn files file text option name) (one inside.Scalar stands) (none-word acting)
   needs_to number context one (needs-entry {holder = h} {word = w} plain has which stands) =
-      subst (NeedsNoneIn files text option name) (one (inside.Entries h) stands)
+      subst (NeedsNoneIn files file text option name) (one (inside.Entries h) stands)
       (none-entry (record { plain = plain; word = w; is = has; which = which }))
   needs_to number context one (needs-untold acting stands) =
-      subst (NeedsNoneIn files text option name) (one inside.Untold stands) (none-untold acting)
+      subst (NeedsNoneIn files file text option name) (one inside.Untold stands) (none-untold acting)
   needs_to number context one (needs-without plain none stands) =
-      subst (NeedsNoneIn files text option name) (one inside.Options stands)
-      (none-without (record { plain = plain; none = none }))
+      subst (NeedsNoneIn files file text option name) (one inside.Options stands)
+      (none-without (record { plain = plain; lacks = none }))
 
   pub needs_nowhere : (number : ℕ)
       → ((context : Context) → StandsIn files known file text option number context → ⊥)
@@ -82,7 +82,7 @@ module _ (files : List File) (known : List OptionFacts) (file : ℕ) (text : Lis
   unnamed_leads number _ inner (un-default taken acting given) =
       leads-default taken acting given.in_file given.is given.at given.gives
   unnamed_leads number _ _ (un-untold not acting) = leads-untold not acting
-  unnamed_leads number _ _ (un-without is) = leads-without_message is.plain is.none
+  unnamed_leads number _ _ (un-without is) = leads-without_message is.plain is.lacks
 
   pub leads_unnamed : (number : ℕ) (outer inner : Context)
       → ((at : DeclaredPlace) → NamesAs files known file text option number name name.role outer at → ⊥)
@@ -96,26 +96,26 @@ module _ (files : List File) (known : List OptionFacts) (file : ℕ) (text : Lis
       un-default taken acting (record { field = f; in_file = in_file; fact = u; is = is; at = at; gives = gives })
   leads_unnamed number _ _ none (leads-untold not acting) = un-untold not acting
   leads_unnamed number _ _ none (leads-without_message plain none_of) =
-      un-without (record { plain = plain; none = none_of })
+      un-without (record { plain = plain; lacks = none_of })
 
   -- a name that names something gives what that gives
 
-  pub leads_named_to : HaveOwnPaths files → (number : ℕ) (outer inner : Context) (at : DeclaredPlace)
+  pub leads_named_to : (number : ℕ) (outer inner : Context) (at : DeclaredPlace)
       → NamesAs files known file text option number name name.role outer at
       → Leads files known file text option number name outer inner → PlaceGives files known name.role at inner
-  leads_named_to paths number outer inner at names (leads-named {at = other} its gives) =
+  leads_named_to number outer inner at names (leads-named {at = other} its gives) =
       subst (λ (p : DeclaredPlace). PlaceGives files known name.role p inner)
-      (one_named files paths known file text option number name name.role outer other at its names) gives
-  leads_named_to paths number _ _ at names (leads-key {holder = h} plain has) =
-      absurd (none_in_entries files paths known file text option number name name.role h at names)
-  leads_named_to paths number _ inner at names (leads-map_value {holder = h} plain has gives) =
-      absurd (none_in_entries files paths known file text option number name name.role h at names)
-  leads_named_to paths number _ inner at names (leads-default taken acting in_file is there gives) =
-      absurd (none_untold files paths known file text option number name name.role at names)
-  leads_named_to paths number _ _ at names (leads-untold not acting) =
-      absurd (none_untold files paths known file text option number name name.role at names)
-  leads_named_to paths number _ _ at names (leads-without_message plain none_of) =
-      absurd (none_without_message files paths known file text option number name name.role at plain none_of names)
+      (one_named files known file text option number name name.role outer other at its names) gives
+  leads_named_to number _ _ at names (leads-key {holder = h} plain has) =
+      absurd (none_in_entries files known file text option number name name.role h at names)
+  leads_named_to number _ inner at names (leads-map_value {holder = h} plain has gives) =
+      absurd (none_in_entries files known file text option number name name.role h at names)
+  leads_named_to number _ inner at names (leads-default taken acting in_file is there gives) =
+      absurd (none_untold files known file text option number name name.role at names)
+  leads_named_to number _ _ at names (leads-untold not acting) =
+      absurd (none_untold files known file text option number name name.role at names)
+  leads_named_to number _ _ at names (leads-without_message plain none_of) =
+      absurd (none_without_message files known file text option number name name.role at plain none_of names)
 
   -- what is given is clear
 
@@ -151,7 +151,7 @@ module _ (files : List File) (known : List OptionFacts) (file : ℕ) (text : Lis
   scalar_leads_none inner x = elim x [ ]
 
   pub options_lead : (inner : Context) → LeadsUnnamed files known file text option name inside.Options inner
-      → IsWithoutMessage files option name
+      → IsWithoutMessage files file option name
   options_lead _ (un-without is) = is
 
   -- entries of a map

@@ -100,6 +100,19 @@ module _ {A : Type 0} (key : A → ℕ) where
               same_Some x one (sym here ∙ (ap (slice_get xs) same ∙ at)))
         ]
 
+    -- where keys don't fall, nothing has it if the first that isn't before it has another one
+    pub none_with : IsNonDecreasingBy key xs → (one : A) → slice_get xs before ≡ Some one → (key one ≡ start → ⊥)
+        → (x : A) → Contains xs x → key x ≡ start → ⊥
+    none_with sorted one at other x there is =
+        let here = at_contained xs x there in
+        let late = from_there there.0 x here (omega (arith, is)) in
+        let within = slice_get_within xs before one at in
+        let least = ltb-false _ _ (point.1 before one (omega arith) within) in
+        let itself = get_or_from_slice_get xs before one one at in
+        let its = get_or_from_slice_get xs there.0 x one here in
+        let high = sorted before there.0 one late there.1 in
+        other (omega (arith, least, high, ap key itself, ap key its, is))
+
     -- ---- those with a key, where several may have it
 
     module _ (sorted : IsNonDecreasingBy key xs) (count : ℕ) (few : count ≤ length (drop before xs))

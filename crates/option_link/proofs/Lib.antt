@@ -16,7 +16,6 @@ pub mod OwnerLemmas
 pub mod ToldLemmas
 pub mod MarkLemmas
 pub mod PackageLemmas
-pub mod CountedLemmas
 pub mod LookupLemmas
 pub mod OuterLemmas
 pub mod JoinLemmas
@@ -40,6 +39,7 @@ pub mod ValueLemmas
 pub mod RootLemmas
 pub mod ContextLemmas
 pub mod TargetLemmas
+pub mod ReachLemmas
 -- Options have one gap at most
 pub mod GapLemmas
 -- What names give
@@ -52,3 +52,8 @@ pub mod FitLemmas
 pub mod FrontLemmas
 pub mod PartLemmas
 pub mod FoundAllLemmas
+-- Names in options of a part of files: declarations by their places, and what the names name
+pub mod PartPlaceLemmas
+pub mod PartContextLemmas
+pub mod PartNameLemmas
+pub mod PartTargetLemmas

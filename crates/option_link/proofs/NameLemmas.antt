@@ -10,7 +10,7 @@ use Rattle.proto_options.specs.declared.names.OptionName.{OptionName}
 use Rattle.proto_options.specs.declared.names.OptionRole.{OptionRole}
 use Rattle.proto_options.specs.declared.names.OptionRole.TheVariants as role
 use Rattle.proto_options.specs.declared.options.FileOption.{FileOption}
-use Rattle.proto_visibility.specs.Files.{File, HasPathAt, HaveOwnPaths}
+use Rattle.proto_visibility.specs.Files.{File}
 use Rattle.proto_visibility.specs.Knows.{NameKind, KnowsAs, IsOwner, SeesGiving, is_message}
 use Rattle.proto_link.proofs.LawLemmas.{one_scope}
 use Rattle.option_link.specs.declared.contexts.Context.{Context}
@@ -24,8 +24,8 @@ use Rattle.option_link.specs.Lookups.LooksUp.{absolute as up-absolute, single as
 use Rattle.option_link.specs.Tables.{LooksFor}
 use Rattle.option_link.specs.Tables.LooksFor.{absolute, single, compound}
 use Rattle.option_link.specs.Contexts.{HasWords, IsOptionsMessage, HasFieldsOf, MayBeExtended, LookedUpFrom}
-use Rattle.option_link.specs.Contexts.{NamesAs, descriptor_path, options_message}
-use Rattle.option_link.specs.Contexts.IsOptionsMessage.{by_path, only}
+use Rattle.option_link.specs.Contexts.{LacksMessage, NamesAs, options_message}
+use Rattle.option_link.specs.Contexts.LacksMessage.{nowhere, not_there}
 use Rattle.option_link.specs.Contexts.HasFieldsOf.{options as fields-options, message as fields-message}
 use Rattle.option_link.specs.Contexts.MayBeExtended.{options as extended-options, message as extended-message}
 use Rattle.option_link.specs.Contexts.LookedUpFrom.{part, in_braces}
@@ -80,32 +80,31 @@ pub same_owner : (files : List File) (file : ℕ) (admits : NameKind → Bool) (
 same_owner files file admits name other a b same x y =
     y.alone a (subst (λ (n : List ℕ). SeesGiving files file admits n a) same x.gives)
 
-module _ (files : List File) (paths : HaveOwnPaths files) where
+module _ (files : List File) where
   -- ---- messages
 
-  one_file : (path : List ℕ) (number other : ℕ) → HasPathAt files path number → HasPathAt files path other
-      → number ≡ other
-  one_file path number other x y = paths number other x.0 y.0 x.1 y.1 (x.2 ∙ sym y.2)
+  pub one_options_message : (source : ℕ) (name : List ℕ) (a b : DeclaredPlace) → IsOptionsMessage files source name a
+      → IsOptionsMessage files source name b → a ≡ b
+  one_options_message source name a b x y =
+      one_place files Message Message a b x.named.declaration y.named.declaration x.named.stands y.named.stands
+      (y.of_source.only a.file x.of_source.has) (x.named.named ∙ sym y.named.named)
 
-  pub one_options_message : (name : List ℕ) (a b : DeclaredPlace) → IsOptionsMessage files name a
-      → IsOptionsMessage files name b → a ≡ b
-  one_options_message name a b (by_path x there) (by_path y also) =
-      one_place files Message Message a b x.declaration y.declaration x.stands y.stands
-      (one_file descriptor_path a.file b.file there also) (x.named ∙ sym y.named)
-  one_options_message name a b (by_path x there) (only y alone) = alone a x
-  one_options_message name a b (only x alone) (by_path y also) = sym (alone b y)
-  one_options_message name a b (only x alone) (only y its) = its a x
+  pub lacks_none : (source : ℕ) (name : List ℕ) → LacksMessage files source name → (message : DeclaredPlace)
+      → IsOptionsMessage files source name message → ⊥
+  lacks_none source name (nowhere none) message is = none message.file is.of_source.has
+  lacks_none source name (not_there of_source none) message is =
+      none message is.named (of_source.only message.file is.of_source.has)
 
-  pub with_fields : (option : FileOption) (context : Context) (a b : DeclaredPlace) → HasFieldsOf files option context a
-      → HasFieldsOf files option context b → a ≡ b
-  with_fields option _ a b (fields-options x) (fields-options y) =
-      one_options_message (options_message option.element) a b x y
-  with_fields option _ a b fields-message fields-message = refl
+  pub with_fields : (source : ℕ) (option : FileOption) (context : Context) (a b : DeclaredPlace)
+      → HasFieldsOf files source option context a → HasFieldsOf files source option context b → a ≡ b
+  with_fields source option _ a b (fields-options x) (fields-options y) =
+      one_options_message source (options_message option.element) a b x y
+  with_fields source option _ a b fields-message fields-message = refl
 
   named_alike : (option : FileOption) (context : Context) (a b : DeclaredPlace) (x y : Declaration)
       → MayBeExtended files option context a → MayBeExtended files option context b
       → Stands files a x → Stands files b y → x.full_name ≡ y.full_name
-  named_alike option _ a b x y (extended-options m) (extended-options n) p q =
+  named_alike option _ a b x y (extended-options m present) (extended-options n also) p q =
       ap (λ (d : Declaration). d.full_name) (same_declaration files a x m.declaration p m.stands.stands)
       ∙ (m.named ∙ (sym n.named
       ∙ ap (λ (d : Declaration). d.full_name) (same_declaration files b n.declaration y n.stands.stands q)))
@@ -150,19 +149,19 @@ module _ (files : List File) (paths : HaveOwnPaths files) where
         → NamesAs files known file text option number name acting context b → a ≡ b
     one_named _ context a b (names-field {message = m} {word = v} x has own not)
         (names-field {message = n} {word = w} y its other nor) =
-        one_member Field Field m n v w a b (with_fields option context m n has its) (one_word text name v w x y)
+        one_member Field Field m n v w a b (with_fields file option context m n has its) (one_word text name v w x y)
         own.member other.member
     one_named _ context a b (names-field {message = m} {word = v} x has own not)
         (names-group {message = n} {word = w} y its least other) =
-        absurd (no_field_and_group m n v w a (behind b) (with_fields option context m n has its)
+        absurd (no_field_and_group m n v w a (behind b) (with_fields file option context m n has its)
         (one_word text name v w x y) own.member other.member)
     one_named _ context a b (names-group {message = m} {word = v} x has least own)
         (names-field {message = n} {word = w} y its other nor) =
-        absurd (no_field_and_group n m w v b (behind a) (with_fields option context n m its has)
+        absurd (no_field_and_group n m w v b (behind a) (with_fields file option context n m its has)
         (one_word text name w v y x) other.member own.member)
     one_named _ context a b (names-group {message = m} {word = v} x has least own)
         (names-group {message = n} {word = w} y its again other) =
-        let same = one_member Message Message m n v w (behind a) (behind b) (with_fields option context m n has its)
+        let same = one_member Message Message m n v w (behind a) (behind b) (with_fields file option context m n has its)
         (one_word text name v w x y) own.member other.member in
         one_DeclaredPlace a b (ap (λ (at : DeclaredPlace). at.file) same)
         (omega (arith, ap (λ (at : DeclaredPlace). at.index) same))
@@ -210,9 +209,11 @@ module _ (files : List File) (paths : HaveOwnPaths files) where
 
     -- nor a plain name where there is no message of the options
     pub none_without_message : (acting : OptionRole) (at : DeclaredPlace) → acting ≡ role.Field
-        → ((message : DeclaredPlace) → IsOptionsMessage files (options_message option.element) message → ⊥)
+        → LacksMessage files file (options_message option.element)
         → NamesAs files known file text option number name acting inside.Options at → ⊥
-    none_without_message _ at plain none (names-field x (fields-options {message = m} is) own not) = none m is
-    none_without_message _ at plain none (names-group x (fields-options {message = m} is) least own) = none m is
-    none_without_message _ at plain none (names-extension x may from up owns stands is of_it) =
+    none_without_message _ at plain lacks (names-field x (fields-options {message = m} is) own not) =
+        lacks_none file (options_message option.element) lacks m is
+    none_without_message _ at plain lacks (names-group x (fields-options {message = m} is) least own) =
+        lacks_none file (options_message option.element) lacks m is
+    none_without_message _ at plain lacks (names-extension x may from up owns stands is of_it) =
         extension_or_field plain

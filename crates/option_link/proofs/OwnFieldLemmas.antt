@@ -9,14 +9,13 @@ use Rattle.proto_decl.specs.declared.declaration.DeclarationKind.TheVariants.{Me
 use Rattle.proto_options.specs.declared.fields.FieldFact.{FieldFact}
 use Rattle.proto_options.specs.declared.fields.FieldKind.TheVariants as kinds
 use Rattle.proto_options.specs.declared.options.FileOption.{FileOption}
-use Rattle.proto_visibility.specs.Files.{File, HaveOwnPaths}
+use Rattle.proto_visibility.specs.Files.{File}
 use Rattle.option_link.specs.declared.contexts.Context.TheVariants as inside
 use Rattle.option_link.specs.declared.facts.OptionFacts.{OptionFacts}
 use Rattle.option_link.specs.declared.place.DeclaredPlace.{DeclaredPlace}
 use Rattle.option_link.specs.Places.{StandsAs, place_at}
 use Rattle.option_link.specs.Fields.{AreInOrder, IsField, IsMember, behind}
 use Rattle.option_link.specs.Contexts.{HasFieldsOf, IsOptionsMessage, options_message}
-use Rattle.option_link.specs.Contexts.IsOptionsMessage.{by_path, only}
 use Rattle.option_link.specs.Contexts.HasFieldsOf.{options as fields-options, message as fields-message}
 use Rattle.option_link.specs.Tables.{IsOnly}
 use Rattle.option_link.specs.Typed.{IsMessageAt}
@@ -193,58 +192,58 @@ named_here files known file name braces place alone field x =
 
 -- ---- by what it is looked up in
 
-module _ (files : List File) (known : List OptionFacts) (option : FileOption) (number : ℕ) (word : List ℕ) where
+module _ (files : List File) (known : List OptionFacts) (file : ℕ) (option : FileOption) (number : ℕ)
+    (word : List ℕ) where
   pub in_message : (message field : DeclaredPlace)
-      → IsFieldIn files known option number word (inside.Message message) field
+      → IsFieldIn files known file option number word (inside.Message message) field
       → IsMemberOf files known message word (in_braces option number) field
   in_message message field x = by x.message x.has x.is
     where
-      by : (other : DeclaredPlace) → HasFieldsOf files option (inside.Message message) other
+      by : (other : DeclaredPlace) → HasFieldsOf files file option (inside.Message message) other
           → IsMemberOf files known other word (in_braces option number) field
           → IsMemberOf files known message word (in_braces option number) field
       by _ fields-message is = is
 
   pub of_message : (message field : DeclaredPlace) → IsMemberOf files known message word (in_braces option number) field
-      → IsFieldIn files known option number word (inside.Message message) field
+      → IsFieldIn files known file option number word (inside.Message message) field
   of_message message field is = record { message = message; has = fields-message; is = is }
 
-  options_has : (message : DeclaredPlace) → HasFieldsOf files option inside.Options message
-      → IsOptionsMessage files (options_message option.element) message
+  options_has : (message : DeclaredPlace) → HasFieldsOf files file option inside.Options message
+      → IsOptionsMessage files file (options_message option.element) message
   options_has message (fields-options is) = is
 
-  pub in_options : HaveOwnPaths files → (message : DeclaredPlace)
-      → IsOptionsMessage files (options_message option.element) message → (field : DeclaredPlace)
-      → IsFieldIn files known option number word inside.Options field
+  pub in_options : (message : DeclaredPlace)
+      → IsOptionsMessage files file (options_message option.element) message → (field : DeclaredPlace)
+      → IsFieldIn files known file option number word inside.Options field
       → IsMemberOf files known message word (in_braces option number) field
-  in_options paths message is field x =
+  in_options message is field x =
       subst (λ (m : DeclaredPlace). IsMemberOf files known m word (in_braces option number) field)
-      (one_options_message files paths (options_message option.element) x.message message
+      (one_options_message files file (options_message option.element) x.message message
       (options_has x.message x.has) is) x.is
 
-  pub of_options : (message : DeclaredPlace) → IsOptionsMessage files (options_message option.element) message
+  pub of_options : (message : DeclaredPlace) → IsOptionsMessage files file (options_message option.element) message
       → (field : DeclaredPlace) → IsMemberOf files known message word (in_braces option number) field
-      → IsFieldIn files known option number word inside.Options field
+      → IsFieldIn files known file option number word inside.Options field
   of_options message is field of = record { message = message; has = fields-options is; is = of }
 
-  pub none_in_options : ((message : DeclaredPlace) → IsOptionsMessage files (options_message option.element) message
-      → ⊥) → (field : DeclaredPlace) → IsFieldIn files known option number word inside.Options field → ⊥
+  pub none_in_options : ((message : DeclaredPlace) → IsOptionsMessage files file (options_message option.element) message
+      → ⊥) → (field : DeclaredPlace) → IsFieldIn files known file option number word inside.Options field → ⊥
   none_in_options none field x = none x.message (options_has x.message x.has)
 
   pub none_in_entries : (holder field : DeclaredPlace)
-      → IsFieldIn files known option number word (inside.Entries holder) field → ⊥
+      → IsFieldIn files known file option number word (inside.Entries holder) field → ⊥
   none_in_entries holder field x = elim x.has [ ]
 
   pub none_in_enum : (type field : DeclaredPlace)
-      → IsFieldIn files known option number word (inside.Enum type) field → ⊥
+      → IsFieldIn files known file option number word (inside.Enum type) field → ⊥
   none_in_enum type field x = elim x.has [ ]
 
-  pub none_in_scalar : (field : DeclaredPlace) → IsFieldIn files known option number word inside.Scalar field → ⊥
+  pub none_in_scalar : (field : DeclaredPlace) → IsFieldIn files known file option number word inside.Scalar field → ⊥
   none_in_scalar field x = elim x.has [ ]
 
-  pub none_in_untold : (field : DeclaredPlace) → IsFieldIn files known option number word inside.Untold field → ⊥
+  pub none_in_untold : (field : DeclaredPlace) → IsFieldIn files known file option number word inside.Untold field → ⊥
   none_in_untold field x = elim x.has [ ]
 
-pub clear_message : (files : List File) (name : List ℕ) (message : DeclaredPlace) → IsOptionsMessage files name message
-    → (d : Declaration) × StandsAs files Message message d
-clear_message files name message (by_path named at) = (named.declaration, named.stands)
-clear_message files name message (only named alone) = (named.declaration, named.stands)
+pub clear_message : (files : List File) (source : ℕ) (name : List ℕ) (message : DeclaredPlace)
+    → IsOptionsMessage files source name message → (d : Declaration) × StandsAs files Message message d
+clear_message files source name message is = (is.named.declaration, is.named.stands)

@@ -1,8 +1,7 @@
 -- What has a name, and of which file what is sought is, by what is near the name.
-use Rattle.std.proofs.Common.{◌≡◌, ◌↔◌, ◌⊎◌, inl, inr, ℕ, Bool, true, false, List, [], ◌∷◌, length, get_or, IsTrue}
+use Rattle.std.proofs.Common.{◌≡◌, ◌↔◌, ℕ, Bool, true, false, List, [], ◌∷◌, length, get_or, IsTrue}
 use Rattle.std.proofs.Common.{refl, ap, sym, ◌∙◌, subst, arith}
 use Rattle.std.specs.List.{Contains}
-use Rattle.basics.proofs.ListLemmas.{in_nothing}
 use Rattle.proto_decl.specs.declared.declaration.Declaration.{Declaration}
 use Rattle.proto_visibility.specs.Files.{File, IsPresent}
 use Rattle.proto_visibility.specs.Knows.{NameKind, IsOwner}
@@ -31,38 +30,44 @@ each_near files name listed near Q each place has =
 
 module _ (files : List File) (name : List ℕ) (file : ℕ) (place : DeclaredPlace) (in_file : place.file ≡ file)
     (has : HasName files name place) where
-  -- alone among what is compared with the file and with no others
-  abbrev IsAloneBeside : (others : List ℕ) → Type 0
-  IsAloneBeside others = IsAlone files (λ other. (other ≡ place.file) ⊎ Contains others other) name place
-
-  only_here : IsAloneBeside [] → IsOnly files file name place
+  only_here : IsAlone files name place → IsOnly files file name place
   only_here alone = record {
     in_file = in_file;
     has = has;
-    alone = λ other its. ap (λ (p : DeclaredPlace). p.index) (alone (place_at file other) (inl (sym in_file)) its);
+    alone = λ other its. ap (λ (p : DeclaredPlace). p.index) (alone (place_at file other) (sym in_file) its);
   }
 
-  pub only_if : (is : Bool) → (IsTrue is ↔ IsAloneBeside []) → is ≡ true → IsOnly files file name place
+  pub only_if : (is : Bool) → (IsTrue is ↔ IsAlone files name place) → is ≡ true → IsOnly files file name place
   only_if is iff t = only_here (iff.0 t)
 
-  alone_here : (one : DeclaredPlace) → IsOnly files file name one → IsAloneBeside []
-  alone_here one only other (inl beside_it) its = (
+  alone_here : (one : DeclaredPlace) → IsOnly files file name one → IsAlone files name place
+  alone_here one only other beside_it its = (
       let in_its : other.file ≡ file = beside_it ∙ in_file in
       let same : other.index ≡ one.index =
       only.alone other.index (subst (λ (n : ℕ). HasName files name (place_at n other.index)) in_its its) in
       let here : place.index ≡ one.index =
       only.alone place.index (subst (λ (n : ℕ). HasName files name (place_at n place.index)) in_file has) in
       one_DeclaredPlace other place beside_it (same ∙ sym here))
-  alone_here one only other (inr there) its =
-      absurd (in_nothing other.file there)
 
-  pub not_only : (IsAloneBeside [] → ⊥) → (one : DeclaredPlace) → IsOnly files file name one → ⊥
+  pub not_only : (IsAlone files name place → ⊥) → (one : DeclaredPlace) → IsOnly files file name one → ⊥
   not_only several one only = several (alone_here one only)
 
 pub none_only : (files : List File) (name : List ℕ) (file : ℕ)
     → ((place : DeclaredPlace) → HasName files name place → place.file ≡ file → ⊥) → (place : DeclaredPlace)
     → IsOnly files file name place → ⊥
 none_only files name file none place only = none place only.has only.in_file
+
+-- by those that are near
+pub alone_by_near : (files : List File) (name : List ℕ) (near : List Listed) (place : DeclaredPlace) (is : Bool)
+    → AreNear files name near
+    → (IsTrue is ↔ ((one : Listed) → Contains near one → one.place.file ≡ place.file → HasName files name one.place
+    → one.place ≡ place))
+    → IsTrue is ↔ IsAlone files name place
+alone_by_near files name near place is all iff = (
+  λ t other beside has. each_near files name near all
+      (λ p. p.file ≡ place.file → HasName files name p → p ≡ place) (iff.0 t) other has beside has,
+  λ alone. iff.1 (λ one there. alone one.place),
+)
 
 -- ---- where but one place is near
 

@@ -18,3 +18,6 @@ module _ (files : List File) (known : List OptionFacts) (place : DeclaredPlace) 
 
   pub value_gives_none : PlaceGives files known role.Value place inner → ⊥
   value_gives_none x = elim x [ ]
+
+  pub elsewhere_gives_none : PlaceGives files known role.Elsewhere place inner → ⊥
+  elsewhere_gives_none x = elim x [ ]

@@ -1,37 +1,24 @@
--- In what the first part of an option is looked up, and where its message is.
+-- In what the first part of an option is looked up, and in what a further name is.
 use Rattle.std.proofs.Common.{◌≡◌, ◌↔◌, ℕ, ◌<◌, Bool, List, [], ◌∷◌, length, get_or, Option, Some, None, IsTrue}
 use Rattle.std.proofs.Common.{ap, sym, ◌∙◌, subst}
 use Rattle.std.specs.Prelude.{codes}
-use Rattle.std.specs.Str.{bytes_eq}
-use Rattle.std.specs.List.{Contains, slice_get}
+use Rattle.std.specs.List.{slice_get}
 use Rattle.std.proofs.lemmas.Option.{none-some, same_Some, slice_get_within, slice_get-get_or}
-use Rattle.std.proofs.lemmas.Slice.Eq.{bytes_eq-Decides}
 use Rattle.proto_lex.specs.declared.span.Span.{Span}
 use Rattle.proto_options.specs.declared.elements.Element.TheVariants as of_a
 use Rattle.proto_options.specs.declared.names.OptionName.{OptionName}
 use Rattle.proto_options.specs.declared.names.OptionRole.TheVariants as role
 use Rattle.proto_options.specs.declared.options.FileOption.{FileOption}
-use Rattle.proto_visibility.specs.Files.{File, HasPathAt}
+use Rattle.proto_visibility.specs.Files.{File}
 use Rattle.option_link.specs.declared.contexts.Context.{Context}
 use Rattle.option_link.specs.declared.facts.OptionFacts.{OptionFacts}
-use Rattle.option_link.specs.declared.place.DeclaredPlace.{DeclaredPlace}
-use Rattle.option_link.specs.Contexts.{HasWords, IsMessageNamed, IsOptionsMessage, IsTaken, IsTakenOption, Root}
-use Rattle.option_link.specs.Contexts.{StandsIn, descriptor_path}
-use Rattle.option_link.specs.Contexts.IsOptionsMessage.{by_path, only}
+use Rattle.option_link.specs.Contexts.{HasWords, IsTaken, IsTakenOption, Root, StandsIn}
 use Rattle.option_link.specs.Contexts.IsTakenOption.{default as is-default, json_name as is-json_name}
 use Rattle.option_link.specs.Contexts.Root.{taken as root-taken, options as root-options}
 use Rattle.option_link.specs.Contexts.StandsIn.{first as stands-first, further as stands-further}
 use Rattle.option_link.specs.Tables.{IsClear}
 use Rattle.option_link.specs.Found.{AreGiven, IsOneWord, LeadsFrom}
 use Rattle.option_link.proofs.LoopLemmas.{iff_as}
-
-pub path_iff : (files : List File) (file : ℕ) (path text : List ℕ) (is : Bool) → HasPathAt files path file
-    → is ≡ bytes_eq path text → IsTrue is ↔ HasPathAt files text file
-path_iff files file path text is at test = (
-  λ t. (at.0, at.1, at.2 ∙ (bytes_eq-Decides path text).0 (sym test ∙ t)),
-  λ has. test ∙ (bytes_eq-Decides path text).1
-      (sym at.2 ∙ (ap (λ (f : File). f.path) (same_Some at.0 has.0 (sym at.1 ∙ has.1)) ∙ has.2)),
-)
 
 -- ---- words that protoc takes
 
@@ -78,27 +65,6 @@ pub not_taken : (text : List ℕ) (option : FileOption)
     → (((place : Span) × IsTaken text (codes "json_name") option place) → ⊥) → IsTakenOption text option → ⊥
 not_taken text option not nor (is-default {field = f} x) = not (f, x)
 not_taken text option not nor (is-json_name {field = f} x) = nor (f, x)
-
--- ---- the message of the options
-
-module _ (files : List File) (name : List ℕ) (messages : List DeclaredPlace)
-    (all : (message : DeclaredPlace) → Contains messages message ↔ IsMessageNamed files name message) where
-  pub first_is : (message : DeclaredPlace) → Contains messages message
-      → HasPathAt files descriptor_path message.file → IsOptionsMessage files name message
-  first_is message there at = by_path ((all message).0 there) at
-
-  pub only_is : (message : DeclaredPlace) → Contains messages message
-      → ((other : DeclaredPlace) → Contains messages other → other ≡ message) → IsOptionsMessage files name message
-  only_is message there same = only ((all message).0 there) (λ other named. same other ((all other).1 named))
-
-  pub none_is : ((message : DeclaredPlace) → Contains messages message
-      → HasPathAt files descriptor_path message.file → ⊥)
-      → ((message : DeclaredPlace) → Contains messages message
-      → ((other : DeclaredPlace) → Contains messages other → other ≡ message) → ⊥)
-      → (message : DeclaredPlace) → IsOptionsMessage files name message → ⊥
-  none_is none several message (by_path named at) = none message ((all message).1 named) at
-  none_is none several message (only named alone) =
-      several message ((all message).1 named) (λ other there. alone other ((all other).0 there))
 
 -- ---- in what a further name is looked up
 

@@ -13,7 +13,8 @@ use Rattle.option_link.specs.declared.place.DeclaredPlace.{DeclaredPlace}
 use Rattle.option_link.specs.declared.table.Listed.{Listed}
 use Rattle.option_link.specs.Places.{Stands}
 use Rattle.option_link.specs.Contexts.{IsMessageNamed}
-use Rattle.option_link.specs.Tables.{AreNear, IsOnly, IsPresentMessage, IsSought, IsSoughtAt}
+use Rattle.option_link.specs.Tables.{AreNear, IsOnly, IsSought, IsSoughtAt}
+use Rattle.option_link.specs.Typed.{IsMessageAt}
 use Rattle.option_link.proofs.LoopLemmas.{iff_as}
 use Rattle.option_link.proofs.KnownLemmas.{known_sought, known_nowhere}
 use Rattle.option_link.proofs.OnlyLemmas.{one_only, only_stands, stands_only}
@@ -78,14 +79,13 @@ module _ (files : List File) (name : List ℕ) (place : DeclaredPlace) where
       → IsMessageNamed files name place → ⊥
   not_named one only other is = other (one_only files place.file name one place only (named_only is))
 
-  pub named_by : (is : Bool) → IsOnly files place.file name place → (IsTrue is ↔ IsPresentMessage files place)
+  pub named_by : (is : Bool) → IsOnly files place.file name place → (IsTrue is ↔ IsMessageAt files place)
       → IsTrue is ↔ IsMessageNamed files name place
-  named_by is only iff = iff_as is (IsPresentMessage files place) (IsMessageNamed files name place)
+  named_by is only iff = iff_as is (IsMessageAt files place) (IsMessageNamed files name place)
       (λ message. (
       let same = same_declaration files place only.has.declaration message.declaration only.has.stands
       message.stands in
       record {
-        present = message.present;
         declaration = only.has.declaration;
         stands = only_stands files Message name place only
             (ap (λ (x : Declaration). x.kind) same ∙ message.is);
@@ -95,7 +95,6 @@ module _ (files : List File) (name : List ℕ) (place : DeclaredPlace) where
         declaration = message.declaration;
         stands = message.stands.stands;
         is = message.stands.is;
-        present = message.present;
       }) iff
 
 -- those of the places near the name

@@ -12,6 +12,7 @@ use Rattle.proto_decl.specs.Names.{hash64}
 use Rattle.proto_decl.specs.Facts.{Facts}
 use Rattle.proto_decl.specs.declared.declaration.Declaration.{Declaration}
 use Rattle.proto_visibility.specs.Files.{File, HasFacts, IsSource}
+use Rattle.proto_visibility.specs.Reaches.{LinksOptions}
 use Rattle.proto_visibility.proofs.FileFactLemmas.{one_list_of_facts}
 use Rattle.option_link.specs.declared.place.DeclaredPlace.{DeclaredPlace}
 use Rattle.option_link.specs.declared.table.Listed.{Listed}
@@ -146,6 +147,9 @@ near_has files name listed near lists is place has = (
       (lists.each place has.declaration has.stands, ap hash64 has.named),
   refl,
 )
+
+pub links_within : (files : List File) (number : ℕ) → LinksOptions files number → number < length files
+links_within files number links = slice_get_within files number links.file links.numbered
 
 pub source_within : (files : List File) (number : ℕ) → IsSource files number → number < length files
 source_within files number source = slice_get_within files number source.file source.numbered

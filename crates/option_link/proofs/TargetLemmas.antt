@@ -15,10 +15,11 @@ use Rattle.proto_options.specs.declared.options.FileOption.{FileOption}
 use Rattle.proto_visibility.specs.declared.clash.Duplicates.{Duplicates}
 use Rattle.proto_visibility.specs.declared.lookup.Entity.{Entity}
 use Rattle.proto_visibility.specs.Clashes.{NoClash}
-use Rattle.proto_visibility.specs.Files.{File, HaveOrigins, HaveOwnPaths, IsSource}
+use Rattle.proto_visibility.specs.Files.{File, HaveOrigins, IsSource}
 use Rattle.proto_visibility.specs.Knows.{IsEntityOf}
-use Rattle.proto_visibility.specs.Sees.{IsReachable}
-use Rattle.proto_visibility.specs.Sees.IsReachable.{seen as counts_seen}
+use Rattle.proto_visibility.specs.Reaches.{IsReachable}
+use Rattle.proto_visibility.specs.Reaches.IsReachable.{reached}
+use Rattle.proto_visibility.specs.Reaches.Reaches.{sees as reaches_seen}
 use Rattle.proto_visibility.proofs.FileFactLemmas.{one_list_of_facts}
 use Rattle.proto_link.proofs.TargetOneLemmas.{one_entity}
 use Rattle.option_link.specs.declared.contexts.Context.{Context}
@@ -60,9 +61,9 @@ by_component_or_reachable files known source is text option number name _ contex
 by_component_or_reachable files known source is text option number name _ context at
     (names-group {word = w} words has least own) = inl (one_component text name w words)
 by_component_or_reachable files known source is text option number name _ context at
-    (names-extension words may from up owns stands named of_it) = inr (counts_seen is owns.gives.sees owns.present)
+    (names-extension words may from up owns stands named of_it) = inr (reached is (reaches_seen owns.gives.sees) owns.present)
 by_component_or_reachable files known source is text option number name _ _ at
-    (names-packed words any called owns stands named) = inr (counts_seen is owns.gives.sees owns.present)
+    (names-packed words any called owns stands named) = inr (reached is (reaches_seen owns.gives.sees) owns.present)
 by_component_or_reachable files known source is text option number name _ _ at
     (names-value {word = w} words of_enum around stands in_file named path) = inl (one_component text name w words)
 
@@ -107,7 +108,7 @@ module _ (files : List File) (origins : HaveOrigins files)
         | inr reachable ↦ by_entity reachable k d within
       ]
 
-  module _ (paths : HaveOwnPaths files) (known : List OptionFacts) (order : AreInOrder known)
+  module _ (known : List OptionFacts) (order : AreInOrder known)
       (uses : (facts : Facts) → AreOfSomeFile facts → UsesInOrder facts.uses)
       (filled : (facts : Facts) → AreOfSomeFile facts → UsesAreFilled facts.uses) where
     pub one_target : (duplicates : Duplicates) → NoClash duplicates files → (source : ℕ) → IsSource files source
@@ -120,14 +121,14 @@ module _ (files : List File) (origins : HaveOrigins files)
         let numbered = subst (λ (n : ℕ). slice_get option.setting.names n ≡ Some x.name) same p.numbered in
         let name : x.name ≡ y.name = same_Some x.name y.name (sym numbered ∙ q.numbered) in
         let stands = subst (λ (n : ℕ). StandsIn files known source text option n p.context) same p.stands in
-        let context = one_context files origins paths known order names uses filled source text option b.name_number
+        let context = one_context files origins known order names uses filled source text option b.name_number
         p.context q.context stands q.stands in
         let Is : ℕ → OptionName → Context → Type 0 = λ n o c.
         NamesAs files known source text option n o o.role c x.at in
         let by_number = subst (λ n. Is n x.name p.context) same p.names in
         let by_name = subst (λ o. Is b.name_number o p.context) name by_number in
         let moved = subst (Is b.name_number y.name) context by_name in
-        let at = one_named files paths known source text option b.name_number y.name y.name.role q.context x.at y.at
+        let at = one_named files known source text option b.name_number y.name y.name.role q.context x.at y.at
         moved q.names in
         let parts = subst (λ (place : DeclaredPlace). NamesParts files y.name place a.parts) at
         (subst (λ (o : OptionName). NamesParts files o x.at a.parts) name x.parts) in

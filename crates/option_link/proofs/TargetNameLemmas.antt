@@ -61,7 +61,7 @@ module _ (files : List File) (known : List OptionFacts) (file : ℕ) (text : Lis
         none w (same_words text name words (w ∷ []) has its)
 
     module _ (word : List ℕ) (has : HasWords text name (word ∷ [])) where
-      pub plain_from : (field : DeclaredPlace) → IsFieldIn files known option number word context field
+      pub plain_from : (field : DeclaredPlace) → IsFieldIn files known file option number word context field
           → Names role.Field context field
       plain_from field x = by x.is
         where
@@ -71,17 +71,17 @@ module _ (files : List File) (known : List OptionFacts) (file : ℕ) (text : Lis
               names-group has x.has (leb-true option.setting.parts number braces) own
 
       pub plain_to : (field : DeclaredPlace) → Names role.Field context field
-          → IsFieldIn files known option number word context field
+          → IsFieldIn files known file option number word context field
       plain_to field (names-field {message = m} {word = w} {fact = f} its fields own not) =
           let same = one_word text name w word its has in
-          subst (λ (v : List ℕ). IsFieldIn files known option number v context field) same (record {
+          subst (λ (v : List ℕ). IsFieldIn files known file option number v context field) same (record {
             message = m;
             has = fields;
             is = member-plain own (λ braces. not (leb-true option.setting.parts number braces));
           })
       plain_to field (names-group {message = m} {word = w} its fields least own) =
           let same = one_word text name w word its has in
-          subst (λ (v : List ℕ). IsFieldIn files known option number v context field) same (record {
+          subst (λ (v : List ℕ). IsFieldIn files known file option number v context field) same (record {
             message = m;
             has = fields;
             is = member-group (braces_by option number least) own;
@@ -181,6 +181,9 @@ module _ (files : List File) (known : List OptionFacts) (file : ℕ) (text : Lis
 
   pub packs_none_untold : (at : DeclaredPlace) → Names role.Message inside.Untold at → ⊥
   packs_none_untold at x = elim x [ ]
+
+  pub elsewhere_none : (context : Context) (at : DeclaredPlace) → Names role.Elsewhere context at → ⊥
+  elsewhere_none context at x = elim x [ ]
 
   pub values_none_options : (at : DeclaredPlace) → Names role.Value inside.Options at → ⊥
   values_none_options at x = elim x [ ]

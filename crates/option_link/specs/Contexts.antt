@@ -17,8 +17,9 @@ use Rattle.proto_options.specs.declared.names.OptionName.{OptionName}
 use Rattle.proto_options.specs.declared.names.OptionRole.{OptionRole}
 use Rattle.proto_options.specs.declared.names.OptionRole.TheVariants as role
 use Rattle.proto_options.specs.declared.options.FileOption.{FileOption}
-use Rattle.proto_visibility.specs.Files.{File, IsPresent, HasPathAt}
+use Rattle.proto_visibility.specs.Files.{File, IsPresent}
 use Rattle.proto_visibility.specs.Knows.{IsOwner, is_message}
+use Rattle.proto_visibility.specs.Reaches.{HasOptionsIn}
 use Rattle.option_link.specs.declared.contexts.Context.{Context}
 use Rattle.option_link.specs.declared.contexts.Context.TheVariants as inside
 use Rattle.option_link.specs.declared.facts.OptionFacts.{OptionFacts}
@@ -46,24 +47,29 @@ pub record HasWords (text : List ℕ) (name : OptionName) (words : List (List �
 
 -- ---- the options of an element
 
--- A message with this full name, in any file that isn't left out, seen or not.
+-- A message with this full name, in any file.
 pub record IsMessageNamed (files : List File) (name : List ℕ) (message : DeclaredPlace) : Type 0 where
-  pub present : IsPresent files message.file
   pub declaration : Declaration
   pub stands : StandsAs files Message message declaration
   pub named : declaration.full_name ≡ name
 
-abbrev pub descriptor_path : List ℕ
-descriptor_path = codes "google/protobuf/descriptor.proto"
+-- The file that a source has the messages of its options in: the only one, and it isn't left out.
+pub record IsOptionsFile (files : List File) (source file : ℕ) : Type 0 where
+  pub has : HasOptionsIn files source file
+  pub only : (other : ℕ) → HasOptionsIn files source other → other ≡ file
+  pub present : IsPresent files file
 
--- Of the messages with this full name the one that plain names are looked up in: that in the file which protoc comes
--- with, or else the only one.
-pub data IsOptionsMessage (files : List File) (name : List ℕ) (message : DeclaredPlace) : Type 0 where
-  by_path : IsMessageNamed files name message → HasPathAt files descriptor_path message.file
-      → IsOptionsMessage files name message
-  only : IsMessageNamed files name message
-      → ((other : DeclaredPlace) → IsMessageNamed files name other → other ≡ message)
-      → IsOptionsMessage files name message
+-- The message with this full name that plain names in a source's options are looked up in.
+pub record IsOptionsMessage (files : List File) (source : ℕ) (name : List ℕ) (message : DeclaredPlace) : Type 0 where
+  pub named : IsMessageNamed files name message
+  pub of_source : IsOptionsFile files source message.file
+
+-- There is none to look them up in: the source has the messages of its options in no file, or in one without this one.
+pub data LacksMessage (files : List File) (source : ℕ) (name : List ℕ) : Type 0 where
+  nowhere : ((file : ℕ) → HasOptionsIn files source file → ⊥) → LacksMessage files source name
+  not_there : {file : ℕ} → IsOptionsFile files source file
+      → ((message : DeclaredPlace) → IsMessageNamed files name message → message.file ≡ file → ⊥)
+      → LacksMessage files source name
 
 -- An option that protoc's parser takes for itself: `default` or `json_name` as the whole name of an option of a field.
 pub record IsTaken (text word : List ℕ) (option : FileOption) (field : Span) : Type 0 where
@@ -86,17 +92,17 @@ pub data Root (text : List ℕ) (option : FileOption) : Context → Type 0 where
 
 -- ---- what a name names
 
--- The message whose fields plain names are.
-pub data HasFieldsOf (files : List File) (option : FileOption) : Context → DeclaredPlace → Type 0 where
-  options : {message : DeclaredPlace} → IsOptionsMessage files (options_message option.element) message
-      → HasFieldsOf files option inside.Options message
-  message : {message : DeclaredPlace} → HasFieldsOf files option (inside.Message message) message
+-- The message whose fields plain names are in an option of this source.
+pub data HasFieldsOf (files : List File) (source : ℕ) (option : FileOption) : Context → DeclaredPlace → Type 0 where
+  options : {message : DeclaredPlace} → IsOptionsMessage files source (options_message option.element) message
+      → HasFieldsOf files source option inside.Options message
+  message : {message : DeclaredPlace} → HasFieldsOf files source option (inside.Message message) message
 
--- A message that names in parentheses or in brackets extend: of an element's options each that has their name, since it
--- is the extension that says which it extends.
+-- A message that names in parentheses or in brackets extend: of an element's options each that has their name, in a
+-- file that isn't left out, since it is the extension that says which it extends.
 pub data MayBeExtended (files : List File) (option : FileOption) : Context → DeclaredPlace → Type 0 where
   options : {message : DeclaredPlace} → IsMessageNamed files (options_message option.element) message
-      → MayBeExtended files option inside.Options message
+      → IsPresent files message.file → MayBeExtended files option inside.Options message
   message : {message : DeclaredPlace} → MayBeExtended files option (inside.Message message) message
 
 -- The scope from which a name is looked up: that of the option, or in braces the one around the message.
@@ -114,13 +120,13 @@ pub data NamesAs (files : List File) (known : List OptionFacts) (file : ℕ) (te
     (number : ℕ) (name : OptionName) : OptionRole → Context → DeclaredPlace → Type 0 where
   -- a field of the message, by its simple name; in braces a group has another one
   field : {context : Context} {message field : DeclaredPlace} {word : List ℕ} {fact : FieldFact}
-      → HasWords text name (word ∷ []) → HasFieldsOf files option context message
+      → HasWords text name (word ∷ []) → HasFieldsOf files file option context message
       → IsOwnField files known message word field fact
       → (option.setting.parts ≤ number → fact.kind ≢ kinds.Group)
       → NamesAs files known file text option number name role.Field context field
   -- in braces, the field of a group by the name of its message
   group : {context : Context} {message field : DeclaredPlace} {word : List ℕ}
-      → HasWords text name (word ∷ []) → HasFieldsOf files option context message
+      → HasWords text name (word ∷ []) → HasFieldsOf files file option context message
       → option.setting.parts ≤ number → IsOwnGroup files known message word field
       → NamesAs files known file text option number name role.Field context field
   -- in parentheses or in brackets: a field of the message, by its full name
@@ -182,7 +188,7 @@ pub data Leads (files : List File) (known : List OptionFacts) (file : ℕ) (text
   untold : ((place : Span) → IsTaken text (codes "default") option place → ⊥) → name.role ≢ role.Extension
       → Leads files known file text option number name inside.Untold inside.Untold
   without_message : name.role ≡ role.Field
-      → ((message : DeclaredPlace) → IsOptionsMessage files (options_message option.element) message → ⊥)
+      → LacksMessage files file (options_message option.element)
       → Leads files known file text option number name inside.Options inside.Untold
 
 -- In what name number so and so of an option is looked up. Where a name names nothing, those that belong to it are

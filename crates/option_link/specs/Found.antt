@@ -27,7 +27,7 @@ use Rattle.option_link.specs.Places.{Stands}
 use Rattle.option_link.specs.Fields.{IsField, IsFieldOf, IsOwnField, IsOwnGroup, FieldGives, ValueGives, behind}
 use Rattle.option_link.specs.Typed.{IsMessageAt}
 use Rattle.option_link.specs.Lookups.{LooksUp, is_field}
-use Rattle.option_link.specs.Contexts.{HasFieldsOf, HasWords, IsOptionsMessage, IsTaken, MayBeExtended, Leads}
+use Rattle.option_link.specs.Contexts.{HasFieldsOf, HasWords, IsTaken, LacksMessage, MayBeExtended, Leads}
 use Rattle.option_link.specs.Contexts.{StandsIn, options_message}
 use Rattle.option_link.specs.OptionNames.{IsOptionTarget, IsGap, LacksTarget, NamesParts}
 use Rattle.option_link.specs.Tables.{IsClear, IsOnly, IsOwned}
@@ -72,10 +72,10 @@ pub data IsMemberOf (files : List File) (known : List OptionFacts) (message : De
       → IsMemberOf files known message word braces field
 
 -- the field by a word of what it is looked up in
-pub record IsFieldIn (files : List File) (known : List OptionFacts) (option : FileOption) (number : ℕ)
+pub record IsFieldIn (files : List File) (known : List OptionFacts) (file : ℕ) (option : FileOption) (number : ℕ)
     (word : List ℕ) (context : Context) (field : DeclaredPlace) : Type 0 where
   pub message : DeclaredPlace
-  pub has : HasFieldsOf files option context message
+  pub has : HasFieldsOf files file option context message
   pub is : IsMemberOf files known message word (in_braces option number) field
 
 -- ---- names in parentheses or in brackets
@@ -158,9 +158,9 @@ pub record IsDefaultGiven (files : List File) (known : List OptionFacts) (file :
   pub at : fact.name ≡ name
   pub gives : FieldGives files known field inner
 
-pub record IsWithoutMessage (files : List File) (option : FileOption) (name : OptionName) : Type 0 where
+pub record IsWithoutMessage (files : List File) (file : ℕ) (option : FileOption) (name : OptionName) : Type 0 where
   pub plain : name.role ≡ role.Field
-  pub none : (message : DeclaredPlace) → IsOptionsMessage files (options_message option.element) message → ⊥
+  pub lacks : LacksMessage files file (options_message option.element)
 
 pub record IsEntryName (text : List ℕ) (name : OptionName) : Type 0 where
   pub plain : name.role ≡ role.Field
@@ -181,15 +181,16 @@ pub data LeadsUnnamed (files : List File) (known : List OptionFacts) (file : ℕ
       → LeadsUnnamed files known file text option name inside.Untold inner
   untold : ((place : Span) → IsTaken text (codes "default") option place → ⊥) → name.role ≢ role.Extension
       → LeadsUnnamed files known file text option name inside.Untold inside.Untold
-  without_message : IsWithoutMessage files option name
+  without_message : IsWithoutMessage files file option name
       → LeadsUnnamed files known file text option name inside.Options inside.Untold
 
-pub data NeedsNoneIn (files : List File) (text : List ℕ) (option : FileOption) (name : OptionName)
+pub data NeedsNoneIn (files : List File) (file : ℕ) (text : List ℕ) (option : FileOption) (name : OptionName)
     : Context → Type 0 where
-  word : name.role ≡ role.Value → NeedsNoneIn files text option name inside.Scalar
-  entry : {holder : DeclaredPlace} → IsEntryName text name → NeedsNoneIn files text option name (inside.Entries holder)
-  untold : name.role ≢ role.Extension → NeedsNoneIn files text option name inside.Untold
-  without_message : IsWithoutMessage files option name → NeedsNoneIn files text option name inside.Options
+  word : name.role ≡ role.Value → NeedsNoneIn files file text option name inside.Scalar
+  entry : {holder : DeclaredPlace} → IsEntryName text name
+      → NeedsNoneIn files file text option name (inside.Entries holder)
+  untold : name.role ≢ role.Extension → NeedsNoneIn files file text option name inside.Untold
+  without_message : IsWithoutMessage files file option name → NeedsNoneIn files file text option name inside.Options
 
 -- ---- all names of an option
 

@@ -6,8 +6,6 @@ pub mod Marks
 pub mod Packages
 pub mod Tables
 pub mod Beside
--- whose declarations are named
-pub mod Counted
 pub mod Linked
 -- what a name in an option is looked up in, and what it names
 pub mod Lookups
@@ -19,3 +17,5 @@ pub mod OptionNames
 pub mod Found
 pub mod KnownFields
 pub mod Laws
+-- names in options, in a part of files
+pub mod Parts

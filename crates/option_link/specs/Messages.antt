@@ -1,18 +1,23 @@
 -- The messages of options, as they are kept.
-use Rattle.std.specs.Prelude.{◌↔◌, ℕ, List, Contains, MatchOption}
+use Rattle.std.specs.Prelude.{◌≡◌, ◌↔◌, ℕ, List, Contains}
+use Rattle.std.specs.List.Sorted.{IsNonDecreasingBy}
 use Rattle.proto_options.specs.declared.elements.Element.{Element}
 use Rattle.proto_options.specs.declared.elements.Element.TheVariants as of_a
 use Rattle.proto_visibility.specs.Files.{File}
 use Rattle.option_link.specs.declared.messages.NamedMessages.{NamedMessages}
 use Rattle.option_link.specs.declared.messages.OptionMessages.{OptionMessages}
 use Rattle.option_link.specs.declared.place.DeclaredPlace.{DeclaredPlace}
-use Rattle.option_link.specs.Contexts.{IsMessageNamed, IsOptionsMessage, options_message}
+use Rattle.option_link.specs.Contexts.{IsMessageNamed, options_message}
 
--- all messages with this full name, and the one in which plain names are looked up
+-- all messages with this full name, in order of their files
 pub record AreMessagesNamed (files : List File) (name : List ℕ) (found : NamedMessages) : Type 0 where
   pub all : (message : DeclaredPlace) → Contains found.all.items message ↔ IsMessageNamed files name message
-  pub plain : MatchOption found.plain ((message : DeclaredPlace) → IsOptionsMessage files name message → ⊥)
-      (IsOptionsMessage files name)
+  pub sorted : IsNonDecreasingBy (λ message. message.file) found.all.items
+
+-- the message with this full name of a file
+pub record IsMessageOf (files : List File) (name : List ℕ) (file : ℕ) (message : DeclaredPlace) : Type 0 where
+  pub named : IsMessageNamed files name message
+  pub in_file : message.file ≡ file
 
 -- those that are kept for an element
 abbrev pub named_messages : OptionMessages → Element → NamedMessages

@@ -17,7 +17,7 @@ use Rattle.option_link.specs.declared.facts.OptionFacts.{OptionFacts}
 use Rattle.option_link.specs.declared.place.DeclaredPlace.{DeclaredPlace}
 use Rattle.option_link.specs.declared.target.OptionTarget.{OptionTarget}
 use Rattle.option_link.specs.Places.{Stands}
-use Rattle.option_link.specs.Contexts.{HasWords, IsOptionsMessage, NamesIn, StandsIn, options_message}
+use Rattle.option_link.specs.Contexts.{HasWords, LacksMessage, NamesIn, StandsIn, options_message}
 
 -- A name of an option of this file, and where what it names is declared.
 pub record NamesPlace (files : List File) (known : List OptionFacts) (file : ℕ) (text : List ℕ) (option : FileOption)
@@ -65,7 +65,7 @@ pub data NeedsNoTarget (files : List File) (known : List OptionFacts) (file : �
   untold : name.role ≢ role.Extension → StandsIn files known file text option number inside.Untold
       → NeedsNoTarget files known file text option number name
   without_message : name.role ≡ role.Field
-      → ((message : DeclaredPlace) → IsOptionsMessage files (options_message option.element) message → ⊥)
+      → LacksMessage files file (options_message option.element)
       → StandsIn files known file text option number inside.Options
       → NeedsNoTarget files known file text option number name
 

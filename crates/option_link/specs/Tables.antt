@@ -1,7 +1,6 @@
 -- The table in which declarations are looked for, and what is found there.
-use Rattle.std.specs.Prelude.{⊤, ◌≡◌, ◌<◌, ◌↔◌, ◌⊎◌, ℕ, Bool, true, false, IsTrue, Option, Some, MatchOption}
+use Rattle.std.specs.Prelude.{◌≡◌, ◌<◌, ◌↔◌, ℕ, Bool, true, false, IsTrue, Some}
 use Rattle.std.specs.Prelude.{List, [], ◌∷◌, Contains, length}
-use Rattle.std.specs.Borrow.{Bor}
 use Rattle.std.specs.List.{slice_get}
 use Rattle.std.specs.List.Sorted.{IsNonDecreasingBy}
 use Rattle.proto_decl.specs.Names.{qualified, dotted, hash64}
@@ -11,7 +10,7 @@ use Rattle.proto_decl.specs.declared.declaration.Declaration.{Declaration}
 use Rattle.proto_decl.specs.declared.declaration.DeclarationKind.TheVariants.{Message, Enum}
 use Rattle.proto_decl.specs.declared.uses.Use.{Use}
 use Rattle.proto_options.specs.declared.fields.FieldFact.{FieldFact}
-use Rattle.proto_visibility.specs.Files.{File, HasFacts, IsPresent}
+use Rattle.proto_visibility.specs.Files.{File, HasFacts}
 use Rattle.proto_visibility.specs.Knows.{NameKind, IsOwner, is_aggregate}
 use Rattle.proto_visibility.specs.Knows.NameKind.{OfDeclaration}
 use Rattle.proto_visibility.specs.Sees.{Sees}
@@ -76,20 +75,9 @@ abbrev pub AreNear : List File → (name : List ℕ) → List Listed → Type 0
 AreNear files name listed = (place : DeclaredPlace) → HasName files name place
     → (one : Listed) × Contains listed one × (one.place ≡ place)
 
--- names of a file are compared with those of another: with those of all files, or with its own and those of these
-abbrev pub IsCompared : (among : Option (Bor (List ℕ))) → (file other : ℕ) → Type 0
-IsCompared among file other = MatchOption among ⊤ (λ numbers. (other ≡ file) ⊎ Contains numbers.now other)
-
--- what has the name stands nowhere else, in any file that is compared
-abbrev pub IsAlone : List File → (Compared : ℕ → Type 0) → (name : List ℕ) → DeclaredPlace → Type 0
-IsAlone files Compared name place = (other : DeclaredPlace) → Compared other.file → HasName files name other
-    → other ≡ place
-
--- it isn't left out, and what it declares has full names that nothing else has, in files that are compared
-pub record HasNamesAmong (files : List File) (Compared : ℕ → Type 0) (number : ℕ) : Type 0 where
-  pub present : IsPresent files number
-  pub own : (here there : DeclaredPlace) (a b : Declaration) → here.file ≡ number → Compared there.file
-      → Stands files here a → Stands files there b → a.full_name ≡ b.full_name → there ≡ here
+-- what has the name stands nowhere else in its file
+abbrev pub IsAlone : List File → (name : List ℕ) → DeclaredPlace → Type 0
+IsAlone files name place = (other : DeclaredPlace) → other.file ≡ place.file → HasName files name other → other ≡ place
 
 -- what has the name stands there, and nothing else of its file has it
 pub record IsOnly (files : List File) (file : ℕ) (name : List ℕ) (place : DeclaredPlace) : Type 0 where
@@ -115,13 +103,6 @@ pub record IsOwned (files : List File) (file : ℕ) (admits : NameKind → Bool)
     (place : DeclaredPlace) : Type 0 where
   pub owner : IsOwner files file admits name place.file
   pub only : IsOnly files place.file name place
-
--- a message stands there, in a file that isn't left out
-pub record IsPresentMessage (files : List File) (place : DeclaredPlace) : Type 0 where
-  pub declaration : Declaration
-  pub stands : Stands files place declaration
-  pub is : declaration.kind ≡ Message
-  pub present : IsPresent files place.file
 
 -- more words than one, of which this is the first
 abbrev pub AreSeveral : (first : List ℕ) → (words : List (List ℕ)) → Type 0

@@ -370,16 +370,6 @@ impl<'k, 'n, 'a, 't> KnownFiles<'k, 'n, 'a, 't> {
         }
     }
 
-    /// Whether a message stands at a place.
-    pub(crate) fn is_message_at(self, place: DeclaredPlace) -> bool
-        ensures { IsTrue result ↔ IsMessageAt self.entry.names.now place }
-    {
-        match self.names.declaration_at(place) {
-            Some(declared) => is_a(declared, DeclarationKind::Message),
-            None => false,
-        }
-    }
-
     /// A place, if a message stands there.
     fn if_message(self, found: Option<DeclaredPlace>) -> Option<DeclaredPlace>
         ensures { MatchOption result ((place : DeclaredPlace) → found ≡ Some place
@@ -388,7 +378,7 @@ impl<'k, 'n, 'a, 't> KnownFiles<'k, 'n, 'a, 't> {
     {
         match found {
             Some(place) => {
-                if !self.is_message_at(place) {
+                if !self.names.is_message_at(place) {
                     return None;
                 }
                 Some(place)

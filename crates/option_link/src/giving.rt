@@ -3,6 +3,7 @@
 ghost use Rattle.std.specs.Prelude.{ℕ, ◌≡◌, ◌≢◌, ◌<◌, ◌↔◌, IsTrue, IfOk, MatchOption, length};
 ghost use Rattle.std.specs.Option.{option_map};
 ghost use Rattle.proto_options.specs.declared.names.OptionRole.TheVariants as role;
+ghost use Rattle.proto_visibility.specs.Reaches.{LinksOptions};
 ghost use Rattle.option_link.specs.declared.contexts.Context.{Context};
 ghost use Rattle.option_link.specs.declared.contexts.Context.TheVariants as inside;
 ghost use Rattle.option_link.specs.declared.place.DeclaredPlace.{DeclaredPlace};
@@ -38,6 +39,7 @@ impl<'k, 'n, 'a, 't> Asked<'k, 'n, 'a, 't> {
         name: &OptionName,
         context: Option<Context>,
     ) -> Result<bool, AllocError>
+        requires { LinksOptions self.files.names.now self.file }
         ensures { IfOk result (λ is. (number : ℕ) → MatchOption context
             ((inner : Context) → StandsIn self.entry.files.names.now self.entry.files.known.now self.entry.file
             self.entry.text.now self.entry.option.now number inner → ⊥)
@@ -63,8 +65,9 @@ impl<'k, 'n, 'a, 't> Asked<'k, 'n, 'a, 't> {
         name: &OptionName,
         context: Context,
     ) -> Result<bool, AllocError>
-        ensures { IfOk result (λ is. IsTrue is ↔ NeedsNoneIn self.entry.files.names.now self.entry.text.now
-            self.entry.option.now name.now context) }
+        requires { LinksOptions self.files.names.now self.file }
+        ensures { IfOk result (λ is. IsTrue is ↔ NeedsNoneIn self.entry.files.names.now self.entry.file
+            self.entry.text.now self.entry.option.now name.now context) }
     {
         match context {
             Context::Scalar => Ok(is_as(name, OptionRole::Value)),
@@ -78,16 +81,16 @@ impl<'k, 'n, 'a, 't> Asked<'k, 'n, 'a, 't> {
 
     /// Whether a name is a plain part of the element's options, of which there is no message.
     fn is_without_message(self, alloc: Global, name: &OptionName) -> Result<bool, AllocError>
-        ensures { IfOk result (λ is. IsTrue is ↔ IsWithoutMessage self.entry.files.names.now self.entry.option.now
-            name.now) }
+        requires { LinksOptions self.files.names.now self.file }
+        ensures { IfOk result (λ is. IsTrue is ↔ IsWithoutMessage self.entry.files.names.now self.entry.file
+            self.entry.option.now name.now) }
     {
         if !is_as(name, OptionRole::Field) {
             return Ok(false);
         }
-        match self.options_message(alloc)? {
-            Some(_message) => Ok(false),
-            None => Ok(true),
-        }
+        self.files
+            .names
+            .lacks_message(alloc, self.file, self.option.element)
     }
 
     /// Whether a name is `key` or `value`.
@@ -111,7 +114,7 @@ impl<'k, 'n, 'a, 't> Asked<'k, 'n, 'a, 't> {
         context: Context,
         target: Option<DeclaredPlace>,
     ) -> Result<Option<Context>, AllocError>
-        requires { self.file < length self.files.names.now }
+        requires { LinksOptions self.files.names.now self.file }
         ensures { IfOk result (λ found. (number : ℕ) → MatchOption target
             ((at : DeclaredPlace) → NamesIn self.entry.files.names.now self.entry.files.known.now self.entry.file
             self.entry.text.now self.entry.option.now number name.now context at → ⊥)
@@ -123,10 +126,6 @@ impl<'k, 'n, 'a, 't> Asked<'k, 'n, 'a, 't> {
             self.entry.text.now self.entry.option.now number name.now context inner
             × IsClear self.entry.files.names.now inner)) }
     {
-        self.files.names.linked();
-        facts_in_order();
-        facts_are_filled();
-        // From here on it is known that a name names one thing at most, and that it gives one.
         match target {
             Some(place) => self.place_gives(alloc, name.role, place),
             None => self.unnamed_gives(alloc, name, context),
@@ -148,6 +147,7 @@ impl<'k, 'n, 'a, 't> Asked<'k, 'n, 'a, 't> {
             OptionRole::Field => self.files.field_gives(alloc, place),
             OptionRole::Extension => self.files.field_gives(alloc, place),
             OptionRole::Message => Ok(Some(Context::Message(place))),
+            OptionRole::Elsewhere => Ok(None),
             OptionRole::Value => Ok(None),
         }
     }
@@ -159,7 +159,7 @@ impl<'k, 'n, 'a, 't> Asked<'k, 'n, 'a, 't> {
         name: &OptionName,
         context: Context,
     ) -> Result<Option<Context>, AllocError>
-        requires { self.file < length self.files.names.now }
+        requires { LinksOptions self.files.names.now self.file }
         ensures { IfOk result (λ found. MatchOption found ((inner : Context) → LeadsUnnamed self.entry.files.names.now
             self.entry.files.known.now self.entry.file self.entry.text.now self.entry.option.now name.now context
             inner → ⊥)
@@ -179,6 +179,7 @@ impl<'k, 'n, 'a, 't> Asked<'k, 'n, 'a, 't> {
     /// What a plain part of the element's options gives that names nothing: if there is no message of them, nobody
     /// tells of what is in it.
     fn options_give(self, alloc: Global, name: &OptionName) -> Result<Option<Context>, AllocError>
+        requires { LinksOptions self.files.names.now self.file }
         ensures { IfOk result (λ found. MatchOption found ((inner : Context) → LeadsUnnamed self.entry.files.names.now
             self.entry.files.known.now self.entry.file self.entry.text.now self.entry.option.now name.now
             inside.Options inner → ⊥)

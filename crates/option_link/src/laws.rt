@@ -1,6 +1,7 @@
 //! The laws.
 
 ghost use Rattle.option_link.specs.Laws as laws;
+ghost use Rattle.option_link.specs.Parts.{PartsNameAlike};
 
 use proto_decl::{facts_are_filled, facts_in_order};
 
@@ -23,4 +24,15 @@ pub fn one_target_a_name()
 /// An option has one gap at most.
 pub fn one_gap_an_option()
     ensures { laws.OneGapAnOption }
+{}
+
+/// What an option of a source names is in a reachable file, where names in its options are linked.
+pub fn targets_are_reachable()
+    ensures { laws.TargetsAreReachable }
+{}
+
+/// An option of a source names in a part of files what it names in the whole, and has its gap there, if the part has
+/// what its sources reach.
+pub fn parts_name_alike()
+    ensures { PartsNameAlike }
 {}

@@ -12,8 +12,6 @@ mod place;
 mod target;
 
 // Declarations by their full names and their paths, and names in scopes.
-mod among;
-mod counted;
 mod lookup;
 mod marks;
 mod outer;
@@ -51,7 +49,10 @@ mod linker;
 mod laws;
 
 pub use facts::{FilesBeside, OptionFacts, fields_are_in_order};
-pub use laws::{one_context_a_name, one_gap_an_option, one_target_a_name};
+pub use laws::{
+    one_context_a_name, one_gap_an_option, one_target_a_name, parts_name_alike,
+    targets_are_reachable,
+};
 pub use linker::OptionLinker;
 pub use place::DeclaredPlace;
 pub use target::{OptionTarget, OptionTargets};

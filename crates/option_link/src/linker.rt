@@ -9,7 +9,7 @@ ghost use Rattle.option_link.specs.declared.contexts.Context.{Context};
 ghost use Rattle.option_link.specs.declared.place.DeclaredPlace.{DeclaredPlace};
 ghost use Rattle.option_link.specs.declared.target.OptionTarget.{OptionTarget};
 ghost use Rattle.proto_visibility.specs.Files.{IsSource};
-ghost use Rattle.option_link.specs.Counted.{Counts};
+ghost use Rattle.proto_visibility.specs.Reaches.{LinksOptions};
 ghost use Rattle.option_link.specs.Fields.{AreInOrder};
 ghost use Rattle.option_link.specs.Linked.{LinkedOptions};
 ghost use Rattle.option_link.specs.OptionNames.{IsOptionTarget, IsGap};
@@ -36,28 +36,26 @@ use proto_options::{FileOption, OptionName};
 use std::alloc::{AllocError, Global};
 use std::marker::Model;
 
-/// Files that are linked, with all their declarations, what is known of each beside its facts, whether it counts, and
-/// what is known of the fields that options use often.
+/// Files that are linked, with all their declarations, what is known of each beside its facts, and what is known of the
+/// fields that options use often.
 ///
 /// Contracts see the list of the files, and that of what is known of each.
 #[derive(Drop)]
 pub struct OptionLinker<'n, 'a, 't> {
     known: &'n FilesBeside<'n>,
     table: DeclarationTable<'n, 'a, 't>,
-    counted: Vec<bool>,
     often: KnownFields,
 }
 
 impl<'n, 'a, 't> Model for OptionLinker<'n, 'a, 't> {
     ghost use Rattle.option_link.specs.KnownFields.{AreKnownFields};
-    ghost use Rattle.option_link.specs.Linked.{LinkedOptions, AreToldOf};
+    ghost use Rattle.option_link.specs.Linked.{LinkedOptions, AreKnown};
 
     ghost Value = { LinkedOptions };
 
     ghost view = { λ options. record { files = options.table; known = options.known.now } };
 
-    ghost invariant = { λ options. AreToldOf (record { files = options.table; known = options.known.now })
-        options.counted.items
+    ghost invariant = { λ options. AreKnown (record { files = options.table; known = options.known.now })
         × AreKnownFields options.table options.known.now options.often.fields.items };
 }
 
@@ -79,24 +77,12 @@ impl<'n, 'a, 't> OptionLinker<'n, 'a, 't> {
         table.keep_types(types);
         let messages = OptionMessages::find(alloc, &table)?;
         table.keep_messages(messages);
-        let counted = table.counted(alloc)?;
         let often = fields_of(alloc, &table, known, numbers.as_slice())?;
         Ok(OptionLinker {
             known,
             table,
-            counted,
             often,
         })
-    }
-
-    /// Whether what a file declares can be named in options: if some source sees the file, or if it isn't left out and
-    /// nothing else, in any file, has a full name of what it declares. For the file that protoc comes with it is enough
-    /// that nothing else in itself, nor in a file that some source sees, has one. Takes no memory.
-    pub fn counts(&self, file: usize) -> bool
-        requires within { file < length self.now.files }
-        ensures { IsTrue result ↔ Counts self.now.files file }
-    {
-        self.counted[file]
     }
 
     /// The options of the file with a number, in order of place.
@@ -108,7 +94,8 @@ impl<'n, 'a, 't> OptionLinker<'n, 'a, 't> {
     }
 
     /// What the names in an option of a file name, and the first one that names nothing and should. `text` is the text
-    /// of the file, which has to be a source. An error means that memory was refused.
+    /// of the file, which has to be a source, and names in its options have to be linked. An error means that memory was
+    /// refused.
     pub fn targets<'k>(
         &'k self,
         alloc: Global,
@@ -116,7 +103,8 @@ impl<'n, 'a, 't> OptionLinker<'n, 'a, 't> {
         text: &'k str,
         option: &'k FileOption,
     ) -> Result<OptionTargets, AllocError>
-        requires { IsSource self.now.files file }
+        requires source { IsSource self.now.files file }
+        requires links { LinksOptions self.now.files file }
         ensures targets { IfOk result (λ found. (target : OptionTarget) → Contains found.targets target
             ↔ IsOptionTarget self.now.files self.now.known file text.now option.now target) }
         ensures rising { IfOk result (λ found. IsStrictlyIncreasing
@@ -159,7 +147,7 @@ fn target_in(
     name: &OptionName,
     context: Option<Context>,
 ) -> Result<Option<DeclaredPlace>, AllocError>
-    requires file { asked.file < length asked.files.names.now }
+    requires links { LinksOptions asked.files.names.now asked.file }
     requires clear { MatchOption context ⊤ (IsClear asked.files.names.now) }
     ensures { IfOk result (λ found. MatchOption found
         ((inner : Context) (at : DeclaredPlace) → context ≡ Some inner → NamesIn asked.entry.files.names.now
@@ -183,7 +171,7 @@ fn given_in(
     context: Option<Context>,
     target: Option<DeclaredPlace>,
 ) -> Result<Option<Context>, AllocError>
-    requires { asked.file < length asked.files.names.now }
+    requires { LinksOptions asked.files.names.now asked.file }
     ensures gives { IfOk result (λ found. (number : ℕ) (outer : Context) → context ≡ Some outer → MatchOption target
         ((at : DeclaredPlace) → NamesIn asked.entry.files.names.now asked.entry.files.known.now asked.entry.file
         asked.entry.text.now asked.entry.option.now number name.now outer at → ⊥)
@@ -236,6 +224,7 @@ fn is_gap(
     context: Option<Context>,
     target: Option<DeclaredPlace>,
 ) -> Result<bool, AllocError>
+    requires { LinksOptions asked.files.names.now asked.file }
     ensures { IfOk result (λ is. (number : ℕ) → MatchOption context
         ((inner : Context) → StandsIn asked.entry.files.names.now asked.entry.files.known.now asked.entry.file
         asked.entry.text.now asked.entry.option.now number inner → ⊥)
@@ -277,6 +266,7 @@ fn find_named(
     found: &mut Found,
 ) -> Result<(), AllocError>
     requires source { IsSource asked.files.names.now asked.file }
+    requires links { LinksOptions asked.files.names.now asked.file }
     requires numbered { slice_get asked.option.now.setting.names number ≡ Some name.now }
     requires found { AreFound asked.files.names.now asked.files.known.now asked.file asked.text.now
         asked.option.now number found.old }
@@ -306,6 +296,7 @@ fn find_next(
     found: &mut Found,
 ) -> Result<(), AllocError>
     requires source { IsSource asked.files.names.now asked.file }
+    requires links { LinksOptions asked.files.names.now asked.file }
     requires within { number < length asked.option.now.setting.names }
     requires found { AreFound asked.files.names.now asked.files.known.now asked.file asked.text.now
         asked.option.now number found.old }
@@ -321,7 +312,8 @@ fn find_next(
 
 /// What all names of an option name.
 fn all_targets(alloc: Global, asked: Asked<'_, '_, '_, '_>) -> Result<OptionTargets, AllocError>
-    requires { IsSource asked.files.names.now asked.file }
+    requires source { IsSource asked.files.names.now asked.file }
+    requires links { LinksOptions asked.files.names.now asked.file }
     ensures targets { IfOk result (λ found. (target : OptionTarget) → Contains found.targets target
         ↔ IsOptionTarget asked.entry.files.names.now asked.entry.files.known.now asked.entry.file
         asked.entry.text.now asked.entry.option.now target) }

@@ -9,7 +9,8 @@ ghost use Rattle.proto_decl.specs.Names.{qualified, dotted};
 ghost use Rattle.proto_visibility.specs.Knows.{KnowsAs, is_aggregate};
 ghost use Rattle.option_link.specs.declared.place.DeclaredPlace.{DeclaredPlace};
 ghost use Rattle.option_link.specs.Contexts.{IsMessageNamed};
-ghost use Rattle.option_link.specs.Tables.{AreSeveral, IsPresentMessage, IsSought, LooksFor};
+ghost use Rattle.option_link.specs.Tables.{AreSeveral, IsSought, LooksFor};
+ghost use Rattle.option_link.specs.Typed.{IsMessageAt};
 ghost use Rattle.option_link.specs.Lookups.{admits, is_any};
 
 use crate::outer::OuterScope;
@@ -85,8 +86,7 @@ impl<'n, 'a, 't> DeclarationTable<'n, 'a, 't> {
         }
     }
 
-    /// Whether a message with this full name is declared at a place, which no other declaration of its file has, and
-    /// the file isn't left out.
+    /// Whether a message with this full name is declared at a place, which no other declaration of its file has.
     fn is_message_named(&self, place: DeclaredPlace, name: &str) -> bool
         ensures { IsTrue result ↔ IsMessageNamed self.now name.now place }
     {
@@ -95,28 +95,23 @@ impl<'n, 'a, 't> DeclarationTable<'n, 'a, 't> {
                 if !is_same(only, place) {
                     return false;
                 }
-                self.is_present_message(place)
+                self.is_message_at(place)
             }
             None => false,
         }
     }
 
-    /// Whether a message is declared at a place, in a file that isn't left out.
-    fn is_present_message(&self, place: DeclaredPlace) -> bool
-        ensures { IsTrue result ↔ IsPresentMessage self.now place }
+    /// Whether a message stands at a place.
+    pub(crate) fn is_message_at(&self, place: DeclaredPlace) -> bool
+        ensures { IsTrue result ↔ IsMessageAt self.now place }
     {
         match self.declaration_at(place) {
-            Some(declaration) => {
-                if !is_a(declaration, DeclarationKind::Message) {
-                    return false;
-                }
-                self.is_present(place.file)
-            }
+            Some(declared) => is_a(declared, DeclarationKind::Message),
             None => false,
         }
     }
 
-    /// The messages with this full name that no other declarations of their files have, in files that aren't left out.
+    /// The messages with this full name that no other declarations of their files have.
     pub(crate) fn messages_named(
         &self,
         alloc: Global,

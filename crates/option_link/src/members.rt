@@ -6,6 +6,7 @@ ghost use Rattle.proto_decl.specs.Declares.{simple_name};
 ghost use Rattle.proto_decl.specs.declared.declaration.Declaration.{Declaration};
 ghost use Rattle.proto_options.specs.declared.fields.FieldFact.{FieldFact};
 ghost use Rattle.proto_options.specs.declared.fields.FieldKind.TheVariants as kinds;
+ghost use Rattle.proto_visibility.specs.Reaches.{LinksOptions};
 ghost use Rattle.option_link.specs.declared.place.DeclaredPlace.{DeclaredPlace};
 ghost use Rattle.option_link.specs.declared.contexts.Context.TheVariants as inside;
 ghost use Rattle.option_link.specs.Places.{Stands};
@@ -83,12 +84,13 @@ impl<'k, 'n, 'a, 't> Asked<'k, 'n, 'a, 't> {
         word: &str,
         context: Context,
     ) -> Result<Option<DeclaredPlace>, AllocError>
-        requires { IsClear self.files.names.now context }
+        requires links { LinksOptions self.files.names.now self.file }
+        requires clear { IsClear self.files.names.now context }
         ensures { IfOk result (λ found. MatchOption found ((field : DeclaredPlace)
-            → IsFieldIn self.entry.files.names.now self.entry.files.known.now self.entry.option.now number word.now
-            context field → ⊥)
-            (IsFieldIn self.entry.files.names.now self.entry.files.known.now self.entry.option.now number word.now
-            context)) }
+            → IsFieldIn self.entry.files.names.now self.entry.files.known.now self.entry.file self.entry.option.now
+            number word.now context field → ⊥)
+            (IsFieldIn self.entry.files.names.now self.entry.files.known.now self.entry.file self.entry.option.now
+            number word.now context)) }
     {
         match context {
             Context::Options => self.options_field(alloc, number, word),
@@ -110,14 +112,13 @@ impl<'k, 'n, 'a, 't> Asked<'k, 'n, 'a, 't> {
         number: usize,
         word: &str,
     ) -> Result<Option<DeclaredPlace>, AllocError>
+        requires { LinksOptions self.files.names.now self.file }
         ensures { IfOk result (λ found. MatchOption found ((field : DeclaredPlace)
-            → IsFieldIn self.entry.files.names.now self.entry.files.known.now self.entry.option.now number word.now
-            inside.Options field → ⊥)
-            (IsFieldIn self.entry.files.names.now self.entry.files.known.now self.entry.option.now number word.now
-            inside.Options)) }
+            → IsFieldIn self.entry.files.names.now self.entry.files.known.now self.entry.file self.entry.option.now
+            number word.now inside.Options field → ⊥)
+            (IsFieldIn self.entry.files.names.now self.entry.files.known.now self.entry.file self.entry.option.now
+            number word.now inside.Options)) }
     {
-        self.files.names.linked();
-        // From here on it is known that no two files have one path, so there is one message at most.
         match self.options_message(alloc)? {
             Some(message) => {
                 let in_braces = self.is_in_braces(number);
@@ -216,7 +217,7 @@ impl<'k, 'n, 'a, 't> KnownFiles<'k, 'n, 'a, 't> {
             → IsMemberHere self.entry.names.now self.entry.known.now place in_braces field → ⊥)
             (IsMemberHere self.entry.names.now self.entry.known.now place in_braces) }
     {
-        if self.is_message_at(place) {
+        if self.names.is_message_at(place) {
             return self.group_before(place, in_braces);
         }
         match self.fact_at(place) {

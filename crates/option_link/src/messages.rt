@@ -1,24 +1,27 @@
 //! The messages of the options of elements, found once.
 
 ghost use Rattle.std.specs.Prelude.{ℕ, ◌≡◌, ◌<◌, ◌↔◌, Contains, IsTrue, IfOk, MatchOption, length};
-ghost use Rattle.proto_visibility.specs.Files.{HasPathAt};
+ghost use Rattle.std.specs.List.{slice_get};
+ghost use Rattle.std.specs.List.Sorted.{IsNonDecreasingBy};
+ghost use Rattle.proto_visibility.specs.Files.{IsPresent};
+ghost use Rattle.proto_visibility.specs.Reaches.{HasOptionsIn, LinksOptions};
 ghost use Rattle.option_link.specs.declared.place.DeclaredPlace.{DeclaredPlace};
-ghost use Rattle.option_link.specs.Contexts.{IsMessageNamed, IsOptionsMessage, descriptor_path, options_message};
-ghost use Rattle.option_link.specs.Messages.{AreMessagesNamed, AreOptionsMessages, named_messages};
+ghost use Rattle.option_link.specs.Contexts.{IsMessageNamed, IsOptionsFile, IsOptionsMessage, LacksMessage};
+ghost use Rattle.option_link.specs.Contexts.{options_message};
+ghost use Rattle.option_link.specs.Messages.{AreMessagesNamed, AreOptionsMessages, IsMessageOf, named_messages};
 
 use crate::contexts::options_message;
-use crate::naming::is_descriptor;
-use crate::place::{DeclaredPlace, are_all, is_same};
+use crate::place::{DeclaredPlace, is_same};
 use crate::table::DeclarationTable;
 use proto_lex::Span;
+use proto_link::OptionsIn;
 use proto_options::Element;
 use std::alloc::{AllocError, Global};
 
-/// The messages with a full name, and the one of them in which plain names are looked up.
+/// The messages with a full name, in order of their files.
 #[derive(Drop)]
 pub(crate) struct NamedMessages {
     all: Vec<DeclaredPlace>,
-    plain: Option<DeclaredPlace>,
 }
 
 /// Those of the options of each kind of element.
@@ -36,18 +39,14 @@ pub(crate) struct OptionMessages {
 }
 
 impl NamedMessages {
-    /// Whether a message is one of them.
-    pub(crate) fn has(&self, message: DeclaredPlace) -> bool
-        ensures { IsTrue result ↔ Contains self.now.all.items message }
+    /// That of a file.
+    pub(crate) fn of_file(&self, file: usize) -> Option<DeclaredPlace>
+        requires { IsNonDecreasingBy (λ message. message.file) self.now.all.items }
+        ensures { MatchOption result
+            ((message : DeclaredPlace) → Contains self.now.all.items message → message.file ≡ file → ⊥)
+            (λ message. Contains self.now.all.items message × (message.file ≡ file)) }
     {
-        is_among(self.all.as_slice(), message)
-    }
-
-    /// The one in which plain names are looked up.
-    pub(crate) fn plain(&self) -> Option<DeclaredPlace>
-        ensures { result ≡ self.now.plain }
-    {
-        self.plain
+        place_in(self.all.as_slice(), file)
     }
 }
 
@@ -92,40 +91,111 @@ impl OptionMessages {
 }
 
 impl<'n, 'a, 't> DeclarationTable<'n, 'a, 't> {
-    /// The message of the options of an element in which plain names are looked up.
-    pub(crate) fn plain_message(
+    /// The file that a source has the messages of its options in, if there is one alone, which isn't left out.
+    fn options_file(&self, source: usize) -> Option<usize>
+        requires { LinksOptions self.now source }
+        ensures { MatchOption result ((file : ℕ) → IsOptionsFile self.now source file → ⊥)
+            (IsOptionsFile self.now source) }
+    {
+        match self.linker().options_in(source) {
+            OptionsIn::At(file) => {
+                if !self.is_present(file) {
+                    return None;
+                }
+                Some(file)
+            }
+            OptionsIn::Nowhere => None,
+            OptionsIn::Several => None,
+        }
+    }
+
+    /// Whether a source has the messages of its options in no file.
+    fn has_no_options(&self, source: usize) -> bool
+        requires { LinksOptions self.now source }
+        ensures { IsTrue result ↔ ((file : ℕ) → HasOptionsIn self.now source file → ⊥) }
+    {
+        match self.linker().options_in(source) {
+            OptionsIn::At(_) => false,
+            OptionsIn::Nowhere => true,
+            OptionsIn::Several => false,
+        }
+    }
+
+    /// The message of the options of an element in a file.
+    fn message_of_file(
         &self,
         alloc: Global,
         element: Element,
+        file: usize,
     ) -> Result<Option<DeclaredPlace>, AllocError>
         ensures { IfOk result (λ found. MatchOption found
-            ((message : DeclaredPlace) → IsOptionsMessage self.now (options_message element) message → ⊥)
-            (IsOptionsMessage self.now (options_message element))) }
+            ((message : DeclaredPlace) → IsMessageOf self.now (options_message element) file message → ⊥)
+            (IsMessageOf self.now (options_message element) file)) }
     {
         match self.known_messages() {
-            Some(known) => Ok(known.named(element).plain()),
+            Some(known) => Ok(known.named(element).of_file(file)),
             None => {
                 let found = messages_of(alloc, self, element)?;
-                Ok(found.plain())
+                Ok(found.of_file(file))
             }
         }
     }
 
-    /// Whether a message is one of the options of an element.
+    /// The message of the options of an element in which plain names of a source are looked up.
+    pub(crate) fn options_message(
+        &self,
+        alloc: Global,
+        source: usize,
+        element: Element,
+    ) -> Result<Option<DeclaredPlace>, AllocError>
+        requires { LinksOptions self.now source }
+        ensures { IfOk result (λ found. MatchOption found
+            ((message : DeclaredPlace) → IsOptionsMessage self.now source (options_message element) message → ⊥)
+            (IsOptionsMessage self.now source (options_message element))) }
+    {
+        match self.options_file(source) {
+            Some(file) => self.message_of_file(alloc, element, file),
+            None => Ok(None),
+        }
+    }
+
+    /// Whether there is none to look them up in.
+    pub(crate) fn lacks_message(
+        &self,
+        alloc: Global,
+        source: usize,
+        element: Element,
+    ) -> Result<bool, AllocError>
+        requires { LinksOptions self.now source }
+        ensures { IfOk result (λ lacks. IsTrue lacks ↔ LacksMessage self.now source (options_message element)) }
+    {
+        match self.options_file(source) {
+            Some(file) => {
+                let found = self.message_of_file(alloc, element, file)?;
+                Ok(found.is_none())
+            }
+            None => Ok(self.has_no_options(source)),
+        }
+    }
+
+    /// Whether a message is one of the options of an element, in a file that isn't left out.
     pub(crate) fn is_options_message(
         &self,
         alloc: Global,
         element: Element,
         message: DeclaredPlace,
     ) -> Result<bool, AllocError>
-        ensures { IfOk result (λ is. IsTrue is ↔ IsMessageNamed self.now (options_message element) message) }
+        ensures { IfOk result (λ is. IsTrue is
+            ↔ (IsMessageNamed self.now (options_message element) message × IsPresent self.now message.file)) }
     {
-        match self.known_messages() {
-            Some(known) => Ok(known.named(element).has(message)),
-            None => {
-                let found = messages_of(alloc, self, element)?;
-                Ok(found.has(message))
+        match self.message_of_file(alloc, element, message.file)? {
+            Some(found) => {
+                if !is_same(found, message) {
+                    return Ok(false);
+                }
+                Ok(self.is_present(message.file))
             }
+            None => Ok(false),
         }
     }
 }
@@ -139,73 +209,33 @@ fn messages_of(
     ensures { IfOk result (AreMessagesNamed table.now (options_message element)) }
 {
     let name = options_message(element);
-    let all = table.messages_named(alloc, name)?;
-    let plain = plain_among(table, all.as_slice(), name);
-    Ok(NamedMessages { all, plain })
+    let mut all = table.messages_named(alloc, name)?;
+    all.sort_unstable_by_key(|message| message.file);
+    Ok(NamedMessages { all })
 }
 
-/// Of all messages with a full name the one in which plain names are looked up: that in the file which protoc comes
-/// with, or else the only one.
-fn plain_among(
-    table: &DeclarationTable<'_, '_, '_>,
-    messages: &[DeclaredPlace],
-    name: &str,
-) -> Option<DeclaredPlace>
-    requires { (message : DeclaredPlace) → Contains messages.now message ↔ IsMessageNamed table.now name.now message }
-    ensures { MatchOption result ((message : DeclaredPlace) → IsOptionsMessage table.now name.now message → ⊥)
-        (IsOptionsMessage table.now name.now) }
+/// The place with a number among these.
+fn place_with(places: &[DeclaredPlace], index: usize) -> Option<DeclaredPlace>
+    ensures { result ≡ slice_get places.now index }
 {
-    let _name = name;
-    match first_by_path(table, messages) {
-        Some(message) => Some(message),
-        None => only_one(messages),
-    }
+    places.get(index).copied()
 }
 
-/// The first of these messages that is in the file which protoc comes with.
-fn first_by_path(
-    table: &DeclarationTable<'_, '_, '_>,
-    messages: &[DeclaredPlace],
-) -> Option<DeclaredPlace>
-    requires { (message : DeclaredPlace) → Contains messages.now message → message.file < length table.now }
-    ensures { MatchOption result ((message : DeclaredPlace) → Contains messages.now message
-        → HasPathAt table.now descriptor_path message.file → ⊥)
-        (λ message. Contains messages.now message × HasPathAt table.now descriptor_path message.file) }
+/// The first of these places, in order of their files, that is in a file.
+fn place_in(places: &[DeclaredPlace], file: usize) -> Option<DeclaredPlace>
+    requires { IsNonDecreasingBy (λ place. place.file) places.now }
+    ensures { MatchOption result
+        ((place : DeclaredPlace) → Contains places.now place → place.file ≡ file → ⊥)
+        (λ place. Contains places.now place × (place.file ≡ file)) }
 {
-    for message in messages {
-        if is_descriptor(table.linker(), message.file) {
-            return Some(*message);
-        }
-    }
-    None
-}
-
-/// The only one of these messages, if they are all one.
-fn only_one(messages: &[DeclaredPlace]) -> Option<DeclaredPlace>
-    ensures { MatchOption result ((message : DeclaredPlace) → Contains messages.now message
-        → ((other : DeclaredPlace) → Contains messages.now other → other ≡ message) → ⊥)
-        (λ message. Contains messages.now message
-        × ((other : DeclaredPlace) → Contains messages.now other → other ≡ message)) }
-{
-    match messages {
-        [] => None,
-        [first, ..] => {
-            if !are_all(messages, *first) {
+    let before = places.partition_point(|one| one.file < file);
+    match place_with(places, before) {
+        Some(one) => {
+            if one.file != file {
                 return None;
             }
-            Some(*first)
+            Some(one)
         }
+        None => None,
     }
-}
-
-/// Whether a place is one of these.
-fn is_among(places: &[DeclaredPlace], place: DeclaredPlace) -> bool
-    ensures { IsTrue result ↔ Contains places.now place }
-{
-    for one in places {
-        if is_same(*one, place) {
-            return true;
-        }
-    }
-    false
 }

@@ -6,20 +6,19 @@ ghost use denote.Ref.{Bor};
 ghost use Rattle.proto_lex.specs.declared.span.Span.{Span};
 ghost use Rattle.proto_options.specs.declared.elements.Element.TheVariants as of_a;
 ghost use Rattle.proto_options.specs.declared.names.OptionRole.TheVariants as role;
-ghost use Rattle.proto_visibility.specs.Files.{HasPathAt};
+ghost use Rattle.proto_visibility.specs.Reaches.{LinksOptions};
 ghost use Rattle.option_link.specs.declared.place.DeclaredPlace.{DeclaredPlace};
 ghost use Rattle.option_link.specs.declared.contexts.Context.{Context};
 ghost use Rattle.option_link.specs.Tables.{IsClear};
 ghost use Rattle.option_link.specs.Contexts.{HasWords, IsOptionsMessage, IsTaken, NamesAs, NamesIn, Root};
-ghost use Rattle.option_link.specs.Contexts.{StandsIn, descriptor_path, options_message};
+ghost use Rattle.option_link.specs.Contexts.{StandsIn, options_message};
 ghost use Rattle.option_link.specs.Found.{AreGiven, IsOneWord, in_braces};
 
 use crate::contexts::Context;
 use crate::fields::KnownFiles;
 use crate::place::DeclaredPlace;
-use crate::words::{is_text, is_word, only_word, words_of};
+use crate::words::{is_word, only_word, words_of};
 use proto_lex::Span;
-use proto_link::Linker;
 use proto_options::{Element, FileOption, OptionName, OptionRole};
 use std::alloc::{AllocError, Global};
 
@@ -31,9 +30,6 @@ pub(crate) struct Asked<'k, 'n, 'a, 't> {
     pub(crate) text: &'k str,
     pub(crate) option: &'k FileOption,
 }
-
-/// The path in the tree of files that protoc comes with of the file that declares the messages of options.
-const DESCRIPTOR_PATH: &str = "google/protobuf/descriptor.proto";
 
 /// The field whose name is at a place that an element is, if it is one.
 pub(crate) fn field_of(element: Element) -> Option<Span>
@@ -57,14 +53,6 @@ pub(crate) fn is_as(name: &OptionName, role: OptionRole) -> bool
     ensures { IsTrue result ↔ (name.now.role ≡ role) }
 {
     name.role == role
-}
-
-/// Whether a file is the one that protoc comes with.
-pub(crate) fn is_descriptor(linker: &Linker<'_, '_>, file: usize) -> bool
-    requires { file < length linker.now }
-    ensures { IsTrue result ↔ HasPathAt linker.now descriptor_path file }
-{
-    is_text(linker.path_of(file), DESCRIPTOR_PATH)
 }
 
 impl<'k, 'n, 'a, 't> Asked<'k, 'n, 'a, 't> {
@@ -128,11 +116,16 @@ impl<'k, 'n, 'a, 't> Asked<'k, 'n, 'a, 't> {
 
     /// The message of the element's options in which plain names are looked up.
     pub(crate) fn options_message(self, alloc: Global) -> Result<Option<DeclaredPlace>, AllocError>
+        requires { LinksOptions self.files.names.now self.file }
         ensures { IfOk result (λ found. MatchOption found ((message : DeclaredPlace)
-            → IsOptionsMessage self.entry.files.names.now (options_message self.entry.option.now.element) message → ⊥)
-            (IsOptionsMessage self.entry.files.names.now (options_message self.entry.option.now.element))) }
+            → IsOptionsMessage self.entry.files.names.now self.entry.file
+            (options_message self.entry.option.now.element) message → ⊥)
+            (IsOptionsMessage self.entry.files.names.now self.entry.file
+            (options_message self.entry.option.now.element))) }
     {
-        self.files.names.plain_message(alloc, self.option.element)
+        self.files
+            .names
+            .options_message(alloc, self.file, self.option.element)
     }
 
     /// What a name is looked up in, by what is known of the names in front of it.
@@ -161,7 +154,7 @@ impl<'k, 'n, 'a, 't> Asked<'k, 'n, 'a, 't> {
         name: &OptionName,
         context: Context,
     ) -> Result<Option<DeclaredPlace>, AllocError>
-        requires file { self.file < length self.files.names.now }
+        requires links { LinksOptions self.files.names.now self.file }
         requires clear { IsClear self.files.names.now context }
         ensures { IfOk result (λ found. MatchOption found ((at : DeclaredPlace) → NamesIn self.entry.files.names.now
             self.entry.files.known.now self.entry.file self.entry.text.now self.entry.option.now number name.now
@@ -183,7 +176,7 @@ impl<'k, 'n, 'a, 't> Asked<'k, 'n, 'a, 't> {
         name: &OptionName,
         context: Context,
     ) -> Result<Option<DeclaredPlace>, AllocError>
-        requires file { self.file < length self.files.names.now }
+        requires links { LinksOptions self.files.names.now self.file }
         requires clear { IsClear self.files.names.now context }
         ensures { IfOk result (λ found. MatchOption found ((at : DeclaredPlace) → NamesIn self.entry.files.names.now
             self.entry.files.known.now self.entry.file self.entry.text.now self.entry.option.now number name.now
@@ -206,7 +199,7 @@ impl<'k, 'n, 'a, 't> Asked<'k, 'n, 'a, 't> {
         words: &[&str],
         context: Context,
     ) -> Result<Option<DeclaredPlace>, AllocError>
-        requires file { self.file < length self.files.names.now }
+        requires links { LinksOptions self.files.names.now self.file }
         requires clear { IsClear self.files.names.now context }
         requires words { HasWords self.text.now name.now (map (λ (word : Bor (List ℕ)). word.now) words.now) }
         ensures { IfOk result (λ found. MatchOption found ((at : DeclaredPlace) → NamesIn self.entry.files.names.now
@@ -219,6 +212,7 @@ impl<'k, 'n, 'a, 't> Asked<'k, 'n, 'a, 't> {
             OptionRole::Field => self.plain_target(alloc, number, name, words, context),
             OptionRole::Extension => self.extension_target(alloc, number, name, words, context),
             OptionRole::Message => self.packed_target(alloc, number, name, words, context),
+            OptionRole::Elsewhere => Ok(None),
             OptionRole::Value => self.value_target(alloc, number, name, words, context),
         }
     }
@@ -232,6 +226,7 @@ impl<'k, 'n, 'a, 't> Asked<'k, 'n, 'a, 't> {
         words: &[&str],
         context: Context,
     ) -> Result<Option<DeclaredPlace>, AllocError>
+        requires links { LinksOptions self.files.names.now self.file }
         requires clear { IsClear self.files.names.now context }
         requires words { HasWords self.text.now name.now (map (λ (word : Bor (List ℕ)). word.now) words.now) }
         ensures { IfOk result (λ found. MatchOption found ((at : DeclaredPlace) → NamesAs self.entry.files.names.now

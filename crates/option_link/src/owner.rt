@@ -57,8 +57,7 @@ impl<'n, 'a, 't> DeclarationTable<'n, 'a, 't> {
     {
         match self.first_in(listed, name, file) {
             Some(place) => {
-                let beside: &[usize] = &[];
-                if !self.is_alone_near(listed, Some(beside), name, place) {
+                if !self.is_alone_near(listed, name, place) {
                     return None;
                 }
                 Some(place)

@@ -1,6 +1,6 @@
 //! Where declarations are.
 
-ghost use Rattle.std.specs.Prelude.{◌≡◌, ◌↔◌, ◌++◌, ◌∷◌, [], if◌then◌else◌, Contains, IsTrue, OnOk};
+ghost use Rattle.std.specs.Prelude.{◌≡◌, ◌↔◌, ◌++◌, ◌∷◌, [], if◌then◌else◌, IsTrue, OnOk};
 ghost use Rattle.option_link.specs.declared.place.DeclaredPlace.{DeclaredPlace};
 
 use std::alloc::AllocError;
@@ -22,18 +22,6 @@ pub(crate) fn is_same(one: DeclaredPlace, other: DeclaredPlace) -> bool
         return false;
     }
     one.index == other.index
-}
-
-/// Whether these places are all the same one.
-pub(crate) fn are_all(places: &[DeclaredPlace], place: DeclaredPlace) -> bool
-    ensures { IsTrue result ↔ ((other : DeclaredPlace) → Contains places.now other → other ≡ place) }
-{
-    for other in places {
-        if !is_same(*other, place) {
-            return false;
-        }
-    }
-    true
 }
 
 /// Adds a place, if it is one.

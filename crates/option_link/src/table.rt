@@ -3,22 +3,21 @@
 ghost use Rattle.std.specs.Prelude.{ℕ, Bool, false, List, ◌≡◌, ◌≢◌, ◌↔◌, ◌<◌, ◌≤◌, ◌+◌, ◌^◌, None, Some, IfOk, OnOk};
 ghost use Rattle.std.specs.Prelude.{Contains, IfSome, IsTrue, MatchOption, length};
 ghost use Rattle.std.specs.List.{slice_get};
-ghost use Rattle.std.specs.List.Sorted.{IsNonDecreasingBy, IsStrictlyIncreasing};
+ghost use Rattle.std.specs.List.Sorted.{IsNonDecreasingBy};
 ghost use Rattle.proto_decl.specs.Names.{hash64};
 ghost use Rattle.proto_decl.specs.declared.declaration.Declaration.{Declaration};
 ghost use Rattle.option_link.specs.declared.place.DeclaredPlace.{DeclaredPlace};
 ghost use Rattle.option_link.specs.declared.table.Listed.{Listed};
 ghost use Rattle.proto_visibility.specs.declared.clash.Duplicates.TheVariants.{Keep};
-ghost use Rattle.proto_visibility.specs.Files.{HaveOrigins, HaveOwnPaths, IsPresent};
+ghost use Rattle.proto_visibility.specs.Files.{HaveOrigins, IsPresent};
 ghost use Rattle.proto_visibility.specs.Knows.{KnowsAs, NameKind};
 ghost use Rattle.proto_visibility.specs.Linked.{HaveClearNames};
 ghost use Rattle.option_link.specs.Marks.{AreListedMarked};
 ghost use Rattle.option_link.specs.Places.{Stands};
 ghost use Rattle.option_link.specs.Messages.{AreOptionsMessages};
 ghost use Rattle.option_link.specs.Typed.{AreTypesFound, IsTypeFound};
-ghost use Rattle.option_link.specs.Tables.{Adds, AddsUpTo, AreNear, HasName, IsAlone, IsCompared, Lists};
+ghost use Rattle.option_link.specs.Tables.{Adds, AddsUpTo, AreNear, HasName, IsAlone, Lists};
 
-use crate::among::is_compared;
 use crate::marks::{is_marked, mark, no_marks};
 use crate::messages::OptionMessages;
 use crate::packages::package_marks;
@@ -232,9 +231,8 @@ impl<'n, 'a, 't> DeclarationTable<'n, 'a, 't> {
         self.linker
     }
 
-    /// No two files have one path, names in the reachable ones are clear, and the facts of each are those of some text.
+    /// Names in the reachable files are clear, and the facts of each are those of some text.
     pub(crate) fn linked(&self)
-        ensures own { HaveOwnPaths self.now }
         ensures clear { HaveClearNames Keep self.now }
         ensures origins { HaveOrigins self.now }
     {
@@ -286,53 +284,29 @@ impl<'n, 'a, 't> DeclarationTable<'n, 'a, 't> {
         !self.near_by(number).is_empty()
     }
 
-    /// Whether what has a full name stands nowhere but at a place, in the files that those of the place's file are
-    /// compared with. Takes no memory.
-    pub(crate) fn is_alone(
-        &self,
-        among: Option<&[usize]>,
-        name: &FullName<'_>,
-        place: DeclaredPlace,
-    ) -> bool
-        requires { IfSome among (λ numbers. IsStrictlyIncreasing numbers.now) }
-        ensures { IsTrue result ↔ IsAlone self.now (IsCompared among.entry place.file) name.now place }
-    {
-        self.is_alone_near(self.near(name), among, name, place)
-    }
-
-    /// The same among those that are near the name.
+    /// Whether what has a full name stands nowhere but at a place in the place's file, of those that are near the name.
     pub(crate) fn is_alone_near(
         &self,
         listed: &[Listed],
-        among: Option<&[usize]>,
         name: &FullName<'_>,
         place: DeclaredPlace,
     ) -> bool
-        requires near { AreNear self.now name.now listed.now }
-        requires rising { IfSome among (λ numbers. IsStrictlyIncreasing numbers.now) }
-        ensures { IsTrue result ↔ IsAlone self.now (IsCompared among.entry place.file) name.now place }
+        requires { AreNear self.now name.now listed.now }
+        ensures { IsTrue result ↔ IsAlone self.now name.now place }
     {
         for one in listed {
-            if !self.is_apart_if(among, one.place, name, place) {
+            if !self.is_apart_in(one.place, name, place) {
                 return false;
             }
         }
         true
     }
 
-    /// Whether a place isn't compared, or is this one, or what stands there has another full name.
-    fn is_apart_if(
-        &self,
-        among: Option<&[usize]>,
-        other: DeclaredPlace,
-        name: &FullName<'_>,
-        place: DeclaredPlace,
-    ) -> bool
-        requires { IfSome among (λ numbers. IsStrictlyIncreasing numbers.now) }
-        ensures { IsTrue result ↔ (IsCompared among.entry place.file other.file → HasName self.now name.now other
-            → other ≡ place) }
+    /// Whether a place is in another file than this one, or is it, or what stands there has another full name.
+    fn is_apart_in(&self, other: DeclaredPlace, name: &FullName<'_>, place: DeclaredPlace) -> bool
+        ensures { IsTrue result ↔ (other.file ≡ place.file → HasName self.now name.now other → other ≡ place) }
     {
-        if !is_compared(among, place.file, other.file) {
+        if other.file != place.file {
             return true;
         }
         self.is_apart(other, name, place)

@@ -102,12 +102,18 @@ pub(crate) fn known_of<'t>(alloc: Global, number: usize, source: &'t str) -> Mad
     }
 }
 
-/// The files of a row, with those of `google.protobuf`.
-pub(crate) fn files_of<'t>(alloc: Global, row: &'t str) -> Made<Vec<FileText<'t>>> {
+/// The files of a row.
+pub(crate) fn files_in<'t>(alloc: Global, row: &'t str) -> Made<Vec<FileText<'t>>> {
     let mut files = Vec::new(alloc);
     for file in row.split_terminator('|') {
         files.push(file_text(file))?;
     }
+    Ok(files)
+}
+
+/// The same, with those of `google.protobuf`.
+pub(crate) fn files_of<'t>(alloc: Global, row: &'t str) -> Made<Vec<FileText<'t>>> {
+    let mut files = files_in(alloc, row)?;
     files.push(FileText {
         path: "google/protobuf/descriptor.proto",
         text: DESCRIPTOR,

@@ -6,7 +6,7 @@ mod braces;
 #[cfg(test)]
 mod brackets;
 #[cfg(test)]
-mod counted;
+mod descriptors;
 #[cfg(test)]
 mod files;
 #[cfg(test)]

@@ -1,8 +1,9 @@
-//! What the options of a file name, as a text of a line for each option, and which files count.
+//! What the options of a file name, as a text of a line for each option.
 
-ghost use Rattle.std.specs.Prelude.{◌≡◌};
+ghost use Rattle.std.specs.Prelude.{◌≡◌, IsTrue};
+ghost use Rattle.proto_visibility.specs.Reaches.{LinksOptions};
 
-use crate::files::{Known, files_of, known_of};
+use crate::files::{Known, files_in, files_of, known_of};
 use option_link::{FilesBeside, OptionFacts, OptionLinker, OptionTargets, fields_are_in_order};
 use proto_decl::FileFacts;
 use proto_link::{Duplicates, Entity, LinkFile, Linker, have_own_paths};
@@ -76,15 +77,6 @@ fn add_option(
     draft.add("\n");
 }
 
-/// What is asked of the files of a row.
-#[derive(Clone, Copy)]
-enum Asked {
-    /// What the options of the first file name.
-    Options,
-    /// The paths of the files that count.
-    Counted,
-}
-
 /// Adds the lines of the options of the first file.
 fn add_options(
     draft: &mut Draft,
@@ -92,7 +84,8 @@ fn add_options(
     options: &OptionLinker<'_, '_, '_>,
     source: &str,
 ) -> Made<()>
-    requires { options.now.files ≡ linker.now }
+    requires files { options.now.files ≡ linker.now }
+    requires links { LinksOptions linker.now 0 }
 {
     if linker.count() == 0 || !linker.is_source(0) {
         return Ok(());
@@ -102,18 +95,6 @@ fn add_options(
         add_option(draft, linker, source, option, &found);
     }
     Ok(())
-}
-
-/// Adds the paths of the files that count, a line for each.
-fn add_counted(draft: &mut Draft, linker: &Linker<'_, '_>, options: &OptionLinker<'_, '_, '_>)
-    requires { options.now.files ≡ linker.now }
-{
-    for file in 0..linker.count() {
-        if options.counts(file) {
-            draft.add(linker.path_of(file));
-            draft.add("\n");
-        }
-    }
 }
 
 /// What is known of the files beside their facts.
@@ -131,17 +112,15 @@ fn lines_with<'n>(
     linker: &'n Linker<'_, '_>,
     beside: &'n FilesBeside<'_>,
     source: &str,
-    asked: Asked,
-) -> Made<Draft> {
+) -> Made<Draft>
+    requires { LinksOptions linker.now 0 }
+{
     let mut draft = Draft::new(alloc);
     if beside.count() != linker.count() || !fields_are_in_order(beside) {
         return Ok(draft);
     }
     let options = OptionLinker::new(alloc, linker, beside)?;
-    match asked {
-        Asked::Options => add_options(&mut draft, linker, &options, source)?,
-        Asked::Counted => add_counted(&mut draft, linker, &options),
-    }
+    add_options(&mut draft, linker, &options, source)?;
     Ok(draft)
 }
 
@@ -151,10 +130,11 @@ fn lines_of(
     linker: &Linker<'_, '_>,
     known: &[OptionFacts],
     source: &str,
-    asked: Asked,
-) -> Made<Draft> {
+) -> Made<Draft>
+    requires { LinksOptions linker.now 0 }
+{
     let beside = beside_of(alloc, known)?;
-    lines_with(alloc, linker, &beside, source, asked)
+    lines_with(alloc, linker, &beside, source)
 }
 
 /// The files that are linked.
@@ -170,28 +150,35 @@ fn linked_files<'a, 't>(
             facts: its.as_ref(),
             included: file.is_included,
             left_out: file.is_left_out,
+            links_options: true,
         })?;
     }
     Ok(linked)
 }
 
-/// What is listed of a row, or why its files can't be linked.
-fn listing(alloc: Global, row: &str, asked: Asked) -> Made<String> {
-    let files = files_of(alloc, row)?;
-    let mut facts = Vec::new(alloc);
-    let mut known = Vec::new(alloc);
-    for (number, file) in files.iter().enumerate() {
-        let Known { facts: its, beside } = known_of(alloc, number, file.text)?;
-        facts.push(its)?;
-        known.push(beside)?;
+/// Whether names in the options of the first of these files are linked.
+fn first_links(files: &[LinkFile<'_, '_>]) -> bool
+    ensures { IsTrue result → LinksOptions files.now 0 }
+{
+    match files {
+        [] => false,
+        [first, ..] => first.links_options,
     }
-    let linked = linked_files(alloc, files.as_slice(), facts.as_slice())?;
-    if !have_own_paths(alloc, linked.as_slice())? {
+}
+
+/// What is listed of files that can be linked, or that they can't be.
+fn listing_of(
+    alloc: Global,
+    linked: &[LinkFile<'_, '_>],
+    known: &[OptionFacts],
+    source: &str,
+    duplicates: Duplicates,
+) -> Made<String> {
+    if !first_links(linked) || !have_own_paths(alloc, linked)? {
         return Draft::new(alloc).finish();
     }
-    let source = files.first().map_or("", |file| file.text);
-    match Linker::new(alloc, linked.as_slice(), Duplicates::Refuse) {
-        Ok(linker) => lines_of(alloc, &linker, known.as_slice(), source, asked)?.finish(),
+    match Linker::new(alloc, linked, duplicates) {
+        Ok(linker) => lines_of(alloc, &linker, known, source)?.finish(),
         Err(_) => {
             let mut draft = Draft::new(alloc);
             draft.add("not linked\n");
@@ -200,11 +187,58 @@ fn listing(alloc: Global, row: &str, asked: Asked) -> Made<String> {
     }
 }
 
+/// What is listed of files.
+fn listing(alloc: Global, files: &[FileText<'_>], duplicates: Duplicates) -> Made<String> {
+    let mut facts = Vec::new(alloc);
+    let mut known = Vec::new(alloc);
+    for (number, file) in files.iter().enumerate() {
+        let Known { facts: its, beside } = known_of(alloc, number, file.text)?;
+        facts.push(its)?;
+        known.push(beside)?;
+    }
+    let linked = linked_files(alloc, files, facts.as_slice())?;
+    let source = files.first().map_or("", |file| file.text);
+    listing_of(
+        alloc,
+        linked.as_slice(),
+        known.as_slice(),
+        source,
+        duplicates,
+    )
+}
+
+/// The files of a row, with those of `google.protobuf`, are one namespace; or it has all files, and each is one.
+#[derive(Clone, Copy)]
+enum Tree {
+    /// Those of `google.protobuf` are added.
+    Added,
+    /// The row has all.
+    Whole,
+}
+
+/// What is listed of a row.
+fn listing_in(alloc: Global, row: &str, tree: Tree) -> Made<String> {
+    match tree {
+        Tree::Added => {
+            let files = files_of(alloc, row)?;
+            listing(alloc, files.as_slice(), Duplicates::Refuse)
+        }
+        Tree::Whole => {
+            let files = files_in(alloc, row)?;
+            listing(alloc, files.as_slice(), Duplicates::Keep)
+        }
+    }
+}
+
 /// Whether the options of the first file of a row name what a listing says. They are listed again if not, since memory
 /// may have run out.
 pub(crate) fn is_listed(alloc: Global, row: &str, want: &str) -> bool {
-    is_listed_once(alloc, row, Asked::Options, want)
-        || is_listed_once(alloc, row, Asked::Options, want)
+    is_listed_once(alloc, row, Tree::Added, want) || is_listed_once(alloc, row, Tree::Added, want)
+}
+
+/// The same of a row with all files of the tree, of which several may give one name.
+pub(crate) fn is_listed_whole(alloc: Global, row: &str, want: &str) -> bool {
+    is_listed_once(alloc, row, Tree::Whole, want) || is_listed_once(alloc, row, Tree::Whole, want)
 }
 
 /// A file with an option below other text, as a row.
@@ -219,7 +253,7 @@ fn row_of(alloc: Global, above: &str, option: &str) -> Made<String> {
 /// Whether an option below other text of a file names what a listing says, once.
 fn is_listed_below_once(alloc: Global, above: &str, option: &str, want: &str) -> bool {
     match row_of(alloc, above, option) {
-        Ok(row) => is_listed_once(alloc, row.as_str(), Asked::Options, want),
+        Ok(row) => is_listed_once(alloc, row.as_str(), Tree::Added, want),
         Err(_) => false,
     }
 }
@@ -231,16 +265,9 @@ pub(crate) fn is_listed_below(alloc: Global, above: &str, option: &str, want: &s
         || is_listed_below_once(alloc, above, option, want)
 }
 
-/// Whether the files of a row that count are those of a listing. They are listed again if not, since memory may have
-/// run out.
-pub(crate) fn are_counted(alloc: Global, row: &str, want: &str) -> bool {
-    is_listed_once(alloc, row, Asked::Counted, want)
-        || is_listed_once(alloc, row, Asked::Counted, want)
-}
-
 /// Whether this is listed of a row, once.
-fn is_listed_once(alloc: Global, row: &str, asked: Asked, want: &str) -> bool {
-    match listing(alloc, row, asked) {
+fn is_listed_once(alloc: Global, row: &str, tree: Tree, want: &str) -> bool {
+    match listing_in(alloc, row, tree) {
         Ok(lines) => lines.as_str() == want,
         Err(_) => false,
     }

@@ -18,12 +18,15 @@ use Rattle.command_line.specs.declared.options.IndexOptions.{IndexOptions}
 use Rattle.command_line.specs.declared.options.include.PackageFolder.{PackageFolder}
 use Rattle.command_line.specs.declared.options.sources.SourceList.{SourceList}
 use Rattle.source_tree.specs.Files.{TreeFile, paths_of}
+use Rattle.protoscip.specs.Unread.{PathUnread}
 use Rattle.source_files.specs.Listings.{Listing}
 use Rattle.source_files.specs.Roots.{AreFilesBelow, FilesBelow}
 use Rattle.source_files.specs.Loads.{IsLoadedBelow, IsTreeBelow, MayNotLoad}
 use Rattle.source_files.specs.declared.load_fault.LoadFault.{LoadFault}
 use Rattle.programs.specs.Settings.{leaves_out, package_in}
 use Rattle.programs.specs.Folders.{AddsRoots, AreByFolder, AreFolders, IsRootOf, folder_package, included_packages}
+use Rattle.programs.specs.Folders.{path_unread}
+use Rattle.source_files.specs.Unread.{Unread}
 use Rattle.programs.specs.Folders.{HasBadFolder, IsLoadedFrom, NamePackages, included_in, packages_in, roots_of}
 use Rattle.programs.specs.Starting.{HasNoPackage, IsBadFolder, MayNotStart}
 use Rattle.programs.specs.Starting.MayNotStart.{no_tree}
@@ -288,7 +291,7 @@ module _ (lists : List ℕ → List ℕ → Option Listing → Type 0) (gives : 
 
   -- the tree of the files below the folders
   pub from_folders : (files : List TreeFile) (own : List (List ℕ)) (others : List (List (List ℕ)))
-      (unread : List (List ℕ)) → options.sources ≡ None
+      (unread : List Unread) → options.sources ≡ None
       → IsLoadedBelow lists gives (leaves_out options.faulty) (string_bytes options.root) (included_in options) files
       own others unread
       → IsLoadedFrom lists gives finds options options.sources files own others unread
@@ -300,7 +303,7 @@ module _ (lists : List ℕ → List ℕ → Option Listing → Type 0) (gives : 
 
   -- the tree of a list
   pub from_list : (list : SourceList) (files : List TreeFile) (own : List (List ℕ)) (others : List (List (List ℕ)))
-      (unread : List (List ℕ)) → options.sources ≡ Some list
+      (unread : List Unread) → options.sources ≡ Some list
       → IsLoadedFrom lists gives finds options (Some list) files own others unread
       → IsLoadedFrom lists gives finds options options.sources files own others unread
   from_list list files own others unread listed of =
@@ -309,36 +312,38 @@ module _ (lists : List ℕ → List ℕ → Option Listing → Type 0) (gives : 
 
   -- as it is read, with the packages of its files
   pub folders_loaded : (files tree : List TreeFile) (own : List (List ℕ)) (others : List (List (List ℕ)))
-      (unread shown : List (List ℕ)) (ids : Packages)
+      (unread : List Unread) (shown : List PathUnread) (ids : Packages)
       → IsLoadedFrom lists gives finds options options.sources files own others unread
-      → AreReadIn options.dialect files tree → shown ≡ unread → AreByFolder options own others ids
+      → AreReadIn options.dialect files tree → shown ≡ map path_unread unread → AreByFolder options own others ids
       → AreFolders lists gives finds options tree shown ids
-  folders_loaded files tree own others unread shown ids below read same by =
-      subst (λ (left : List (List ℕ)). AreFolders lists gives finds options tree left ids) (sym same) (record {
-        own = own;
-        others = others;
-        files = files;
-        below = below;
-        read = read;
-        by = by;
-      })
+  folders_loaded files tree own others unread shown ids below read same by = record {
+    own = own;
+    others = others;
+    files = files;
+    entries = unread;
+    below = below;
+    unread_are = same;
+    read = read;
+    by = by;
+  }
 
   -- where no folder has a package of its own
-  pub folders_of_run : (files tree : List TreeFile) (unread : List (List ℕ)) → options.sources ≡ None
+  pub folders_of_run : (files tree : List TreeFile) (unread : List Unread) (shown : List PathUnread)
+      → shown ≡ map path_unread unread → options.sources ≡ None
       → options.include_packages.items ≡ []
       → IsPackage (package_in options)
       → IsTreeBelow lists gives (leaves_out options.faulty) (string_bytes options.root)
       (map string_bytes options.include.items) files unread
       → AreReadIn options.dialect files tree
-      → AreFolders lists gives finds options tree unread (all_in (package_in options))
-  folders_of_run files tree unread unlisted none good of read =
+      → AreFolders lists gives finds options tree shown (all_in (package_in options))
+  folders_of_run files tree unread shown same unlisted none good of read =
       let roots : included_in options ≡ map string_bytes options.include.items =
       ap (λ (folders : List PackageFolder). map string_bytes options.include.items
       ++ map (λ folder. string_bytes folder.folder) folders) none ∙ append-nil (map string_bytes options.include.items)
       in
       let own = paths_of of.own.files in
       let each = map (λ (below : FilesBelow). paths_of below.files) of.others in
-      folders_loaded files tree own each unread unread (all_in (package_in options))
+      folders_loaded files tree own each unread shown (all_in (package_in options))
       (from_folders files own each unread unlisted (record {
         own = of.own;
         others = of.others;
@@ -346,4 +351,4 @@ module _ (lists : List ℕ → List ℕ → Option Listing → Type 0) (gives : 
         below_each = subst (λ (names : List (List ℕ)). AllZip (AreFilesBelow lists gives (leaves_out options.faulty))
             names of.others) (sym roots) of.below_each;
         holds = (of.holds, refl, refl);
-      })) read refl (by_no_folder options own each none good)
+      })) read same (by_no_folder options own each none good)

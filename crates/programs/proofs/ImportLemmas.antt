@@ -25,7 +25,7 @@ use Rattle.scip_build.specs.declared.fault.FileFault.TheVariants.{Lex, Syntax}
 use Rattle.source_tree.specs.Files.{SourceFile, TreeFile, in_tree}
 use Rattle.source_tree.specs.Mending.{IsMended}
 use Rattle.source_tree.specs.Trees.{IsFileOf, IsTreeOf, of_included, of_source}
-use Rattle.source_files.specs.Seen.{Import}
+use Rattle.source_files.specs.Reached.{Import}
 use Rattle.source_files.proofs.ClosureLemmas.{at_front, front_or_behind, nothing_there}
 use Rattle.programs.specs.Imports.{IsReadIn, IsTreeOfOne, TellsText, import_of, of_fault, of_tree}
 

@@ -1,6 +1,6 @@
 -- What files hold together.
-use Rattle.std.proofs.Common.{◌≡◌, ◌≢◌, ◌⊎◌, ◌↔◌, ◌<◌, ℕ, List, [], ◌∷◌, ◌++◌, length, map, take, Option, Some}
-use Rattle.std.proofs.Common.{Result, Ok, Err, inl, inr, sym, ◌∙◌, ap, subst, arith}
+use Rattle.std.proofs.Common.{◌≡◌, ◌≢◌, ◌⊎◌, ◌<◌, ℕ, List, [], ◌∷◌, ◌++◌, length, map, take, Option, Some}
+use Rattle.std.proofs.Common.{Err, inl, inr, sym, ◌∙◌, ap, subst, arith}
 use Rattle.std.specs.Io.KnownBytes.{Appends}
 use Rattle.std.proofs.lemmas.List.{length-map, length-take-le}
 use Rattle.scip_records.specs.declared.records.Index.{Index}
@@ -10,9 +10,8 @@ use Rattle.scip_wire.specs.declared.wire_fault.WireFault.TheVariants as wire
 use Rattle.scip_join.specs.Gathered.{Gathered, gathered}
 use Rattle.scip_join.specs.Joined.{IsJoin}
 use Rattle.scip_join.specs.Pieces.{ArePiecesOf}
-use Rattle.scip_join.specs.Refused.{HasOtherRoot, IsAllowed, MayRefuse}
+use Rattle.scip_join.specs.Refused.{IsAllowed, MayRefuse}
 use Rattle.scip_join.specs.declared.choices.JoinChoices.{JoinChoices}
-use Rattle.scip_join.specs.declared.join_fault.JoinFault.{JoinFault}
 use Rattle.scip_join.specs.declared.join_fault.JoinFault.TheVariants as join
 use Rattle.scip_join.specs.declared.join_fault.TwoDocuments.{TwoDocuments}
 use Rattle.scip_join.specs.declared.joined.JoinedIndex.{JoinedIndex}
@@ -50,21 +49,6 @@ refused_bytes gives bytes (wire.BadRange at) given why = no_index gives bytes _ 
 refused_bytes gives bytes wire.Memory given why = reading_lacks_memory
 
 -- ---- several files
-
--- an index that is added is the next
-pub adds : {E : Type 0} (gives : Option (List ℕ) → Type 0) (choices : JoinChoices) (indexes : List Index)
-    (index : Index) (new : Gathered) (result : Result E JoinFault) (done : E)
-    → IsReadFrom gives (Ok index) → result ≡ Ok done
-    → ((result ≡ Err join.OtherRoot) ↔ HasOtherRoot choices indexes index)
-    → new ≡ gathered choices (indexes ++ index ∷ []) → Adds gives choices indexes new
-adds gives choices indexes index new result done read ok tells is = record {
-  index = index;
-  next = record {
-    read = read;
-    own = λ other. let both : Ok done ≡ Err join.OtherRoot = sym ok ∙ tells.1 other in absurd cc;
-  };
-  is = is;
-}
 
 -- no file was read yet
 pub none_yet : (gives : List ℕ → Option (List ℕ) → Type 0) (choices : JoinChoices) (kept : Gathered)
@@ -150,6 +134,7 @@ module _ (gives : List ℕ → Option (List ℕ) → Type 0) (choices : JoinChoi
   unspelled joined fault.Memory is may = joining_lacks_memory
   unspelled joined (fault.Read number read) is may = absurd may
   unspelled joined (fault.OtherRoot number) is may = absurd may
+  unspelled joined (fault.OtherEncoding number) is may = absurd may
   unspelled joined (fault.Twice two) is may = absurd may
 
 -- ---- as one index

@@ -11,7 +11,7 @@ use Rattle.programs.specs.OptionLaws.{HeadlineOfFiles}
 use Rattle.programs.specs.Settings.{allowed_by, settings_in}
 use Rattle.source_files.specs.Listings.{Listing}
 use Rattle.source_files.specs.ListedTrees.{files_of as told_files}
-use Rattle.source_files.specs.Roots.{files_of}
+use Rattle.source_files.specs.Unread.{Unread}
 use Rattle.source_tree.specs.Files.{TreeFile}
 use Rattle.source_tree.specs.Trees.{IsTree}
 
@@ -19,10 +19,10 @@ module _ (lists : List ℕ → List ℕ → Option Listing → Type 0) (gives : 
     (finds : List ℕ → List ℕ → Bool → Type 0)
     (options : IndexOptions) where
   tree_loaded : (list : Option SourceList) (files : List TreeFile) (own : List (List ℕ))
-      (others : List (List (List ℕ))) (unread : List (List ℕ))
+      (others : List (List (List ℕ))) (unread : List Unread)
       → IsLoadedFrom lists gives finds options list files own others unread → IsTree files
   tree_loaded None files own others unread of =
-      tree_of_files of.own.files (files_of of.others) files of.holds.0.tree_is
+      tree_of_files of.holds.0.sources of.holds.0.included files of.holds.0.holds.0
   tree_loaded (Some list) files own others unread of =
       let seen = of.2.holds in
       tree_of_files (told_files of.2.sources) (told_files seen.included) files seen.holds.tree_is
@@ -31,4 +31,4 @@ module _ (lists : List ℕ → List ℕ → Option Listing → Type 0) (gives : 
   headline_of_files laws tree unread ids folders =
       headline (allowed_by options) laws (settings_in options ids) tree
       (tree_as_read options.dialect folders.files tree folders.read
-      (tree_loaded options.sources folders.files folders.own folders.others unread folders.below)) folders.by.good
+      (tree_loaded options.sources folders.files folders.own folders.others folders.entries folders.below)) folders.by.good

@@ -20,6 +20,7 @@ use Rattle.protoscip.specs.ToldTrees.{MayNotTell}
 use Rattle.protoscip.specs.ToldTrees.MayNotTell.{telling_lacks_thread, telling_lacks_memory}
 use Rattle.protoscip.specs.declared.fault.Fault.{Fault}
 use Rattle.protoscip.specs.declared.recorded.Recorded.{Recorded}
+use Rattle.protoscip.specs.Unread.{PathUnread}
 use Rattle.command_line.specs.declared.options.limits.Limits.{Limits}
 use Rattle.command_line.specs.declared.options.report.ReportOptions.{ReportOptions}
 use Rattle.programs.specs.Placing.{Finishes, Place}
@@ -64,7 +65,7 @@ counts_alone told status =
     ap (λ (n : ℕ). record (counts_of 0 told status) { skipped = n }) none
 
 module _ (allows : Seen → Choice → Type 0) (settings : Settings) (tree : List TreeFile)
-    (unread : List (List ℕ)) (format : ReportFormat) (status : ℕ) (bytes : List ℕ) where
+    (unread : List PathUnread) (format : ReportFormat) (status : ℕ) (bytes : List ℕ) where
   pub of_an_index : (told : List Omission) (sources : ℕ) → IsSourceCount tree sources
       → bytes ≡ report_of format (all_findings tree unread told) (counts_with sources unread told status)
       → IsReport allows settings tree unread format (Ok told) status bytes
@@ -139,7 +140,7 @@ asked_files at options Is workers tree (Some path) reported goes =
 
 pub reported_files : {Q V : Type 0} (at : Place Q V) (options : ReportOptions) (limits : Limits)
     (allows : Seen → Choice → Type 0) (settings : Settings) (workers : ℕ) (tree : List TreeFile)
-    (unread : List (List ℕ)) (ran : Result (List Omission) Fault) (reported : Result (Unit {0}) Fault)
+    (unread : List PathUnread) (ran : Result (List Omission) Fault) (reported : Result (Unit {0}) Fault)
     → Reports at options limits allows settings workers tree unread ran reported → IfErr reported (HasFilesOf tree)
 reported_files at options limits allows settings workers tree unread ran reported reports =
     asked_files at options

@@ -12,6 +12,7 @@ use Rattle.index_hooks.specs.declared.choice.Choice.{Choice}
 use Rattle.scip_build.specs.declared.settings.Settings.{Settings}
 use Rattle.command_line.specs.declared.options.IndexRequest.{IndexRequest}
 use Rattle.protoscip.specs.Explanations.{explain_in}
+use Rattle.protoscip.specs.Unread.{PathUnread}
 use Rattle.programs.specs.Indexing.{IndexesInto, not_begun, into_part, too_poor}
 use Rattle.programs.specs.Messages.{SaysOfSuccess}
 use Rattle.programs.specs.Placing.{Place}
@@ -31,7 +32,7 @@ holds_of_part f P (Err e) holds = holds
 -- a run ends alike, if what is told is of the part
 pub ends_alike : {M A B : Type 0} (f : A → B) (told_of : B → List Omission)
     (says : (List ℕ → Type 0) → Writer M → (status : ℕ) → Type 0) (none_found : Option (List ℕ) → Type 0)
-    (explain : Option Dialect) (real : Bool) (tree : List TreeFile) (unread : List (List ℕ)) (done : Result A Fault)
+    (explain : Option Dialect) (real : Bool) (tree : List TreeFile) (unread : List PathUnread) (done : Result A Fault)
     (messages : Writer M) (status : ℕ)
     → Ends says none_found explain real tree unread (λ a. told_of (f a)) done messages status
     → Ends says none_found explain real tree unread told_of (part_of f done) messages status
@@ -41,7 +42,7 @@ ends_alike f told_of says none_found explain real tree unread (Err e) messages s
 -- a tree is indexed alike, if the line of none found is one of which `none_found` holds
 pub into_of : {P W Q V M : Type 0} (none_found : List TreeFile → Option (List ℕ) → Type 0) (asked : IndexRequest)
     (allows : Seen → Choice → Type 0) (settings : Settings) (workers : ℕ) (tree : List TreeFile)
-    (unread : List (List ℕ)) (at : Place P W)
+    (unread : List PathUnread) (at : Place P W)
     (report : Place Q V) (messages : Writer M) (status : ℕ) (line : Option (List ℕ)) → none_found tree line
     → IndexesInto (λ _ l. l ≡ line) asked allows settings workers tree unread at report messages status
     → IndexesInto none_found asked allows settings workers tree unread at report messages status

@@ -9,7 +9,8 @@ use Rattle.programs.specs.FaultTexts.{explained}
 use Rattle.programs.specs.IndexFaults.{line_of as line_of_read, explanation_of as explanation_of_read}
 use Rattle.programs.specs.IndexFaults.{status_of as status_of_read}
 use Rattle.programs.specs.declared.files_fault.FilesFault.{FilesFault}
-use Rattle.programs.specs.declared.files_fault.FilesFault.TheVariants.{Read, OtherRoot, Twice, TooLarge, Memory}
+use Rattle.programs.specs.declared.files_fault.FilesFault.TheVariants.{Read, OtherRoot, OtherEncoding, Twice, TooLarge}
+use Rattle.programs.specs.declared.files_fault.FilesFault.TheVariants.{Memory}
 use Rattle.programs.specs.declared.files_fault.ToldBy.{ToldBy}
 use Rattle.programs.specs.declared.files_fault.ToldBy.TheVariants.{Join, Other}
 use Rattle.programs.specs.declared.index_fault.IndexFault.{IndexFault}
@@ -28,6 +29,7 @@ twice_line path earlier later = ((path_line path (codes "Twice in ") ++ earlier)
 abbrev pub line_of : (paths : List (List ℕ)) → FilesFault → List ℕ
 line_of paths (Read number fault) = line_of_read (path_at paths number) fault
 line_of paths (OtherRoot number) = path_line (path_at paths number) (codes "OtherRoot")
+line_of paths (OtherEncoding number) = path_line (path_at paths number) (codes "OtherEncoding")
 line_of paths (Twice two) = twice_line two.path (path_at paths two.earlier) (path_at paths two.later)
 line_of paths TooLarge = plain_line (codes "TooLarge")
 line_of paths Memory = plain_line (codes "Memory")
@@ -42,6 +44,7 @@ abbrev pub explanation_of : ToldBy → FilesFault → List ℕ
 explanation_of by (Read number fault) = explanation_of_read fault
 explanation_of by (OtherRoot number) =
     codes "\nits project root isn't that of the first index: --project-root gives the join one"
+explanation_of by (OtherEncoding number) = codes "\nits text encoding isn't that of the first index: an index has one"
 explanation_of by (Twice two) = twice_explanation by
 explanation_of by TooLarge = codes "\nan index has at most 2147483647 bytes"
 explanation_of by Memory = []
@@ -51,6 +54,7 @@ explanation_of by Memory = []
 abbrev pub status_of : FilesFault → ℕ
 status_of (Read number fault) = status_of_read fault
 status_of (OtherRoot number) = INDEX_STATUS
+status_of (OtherEncoding number) = INDEX_STATUS
 status_of (Twice two) = INDEX_STATUS
 status_of TooLarge = STREAM_STATUS
 status_of Memory = MEMORY_STATUS
@@ -68,6 +72,7 @@ unread_if explain path fault = None
 abbrev pub unread_path : (explain : Bool) → (paths : List (List ℕ)) → FilesFault → Option (List ℕ)
 unread_path explain paths (Read number fault) = unread_if explain (path_at paths number) fault
 unread_path explain paths (OtherRoot number) = None
+unread_path explain paths (OtherEncoding number) = None
 unread_path explain paths (Twice two) = None
 unread_path explain paths TooLarge = None
 unread_path explain paths Memory = None

@@ -8,9 +8,11 @@ use Rattle.source_files.specs.Listings.{Listing}
 use Rattle.source_files.specs.Exclusions.{PathsStay}
 use Rattle.source_files.specs.ListedTrees.{IsTreeListed}
 use Rattle.source_files.specs.Loads.{IsLoadedBelow}
+use Rattle.source_files.specs.Unread.{Unread}
 use Rattle.scip_symbol.specs.Package.{Package, IsPackage}
 use Rattle.scip_build.specs.AsRead.{AreReadIn}
 use Rattle.scip_model.specs.Packages.{Root, Packages, ArePackages, package_among, package_of_path}
+use Rattle.protoscip.specs.Unread.{PathUnread}
 use Rattle.command_line.specs.declared.options.IndexOptions.{IndexOptions}
 use Rattle.command_line.specs.declared.options.include.PackageFolder.{PackageFolder}
 use Rattle.command_line.specs.declared.options.sources.SourceList.{SourceList}
@@ -76,30 +78,36 @@ abbrev pub AreSourcesListed : IndexOptions → SourceList → (paths : List (Lis
 AreSourcesListed options list paths =
     PathsStay (map string_bytes options.exclude.items) (map (λ listed. listed.path) list.listed.items) paths
 
--- the tree of the files below the folders, or of the sources that a list names and the files that these see; the paths
+-- the tree of the files below the folders, or of the sources that a list names and the files that these reach; the paths
 -- of the files below the root and below each other folder, and of what couldn't be read and was left out
 abbrev pub IsLoadedFrom : (lists : List ℕ → List ℕ → Option Listing → Type 0)
     → (gives : List ℕ → Option (List ℕ) → Type 0) → (finds : List ℕ → List ℕ → Bool → Type 0) → IndexOptions
     → Option SourceList → List TreeFile → (own : List (List ℕ)) → (others : List (List (List ℕ)))
-    → (unread : List (List ℕ)) → Type 0
+    → (unread : List Unread) → Type 0
 IsLoadedFrom lists gives finds options None tree own others unread =
     IsLoadedBelow lists gives (leaves_out options.faulty) (string_bytes options.root) (included_in options) tree own
     others unread
 IsLoadedFrom lists gives finds options (Some list) tree own others unread =
     (paths : List (List ℕ)) × AreSourcesListed options list paths
-    × IsTreeListed finds gives (TellsIn options.dialect) (leaves_out options.faulty) (roots_in options) paths
-    tree own others unread
+    × IsTreeListed finds gives (TellsIn options.dialect) (leaves_out options.faulty) options.links_options
+    (roots_in options) paths tree own others unread
 
--- the tree is that of the files below the folders, or of a list, as they are read in the options' dialect; this
--- couldn't be read there and was left out, and these are the packages of the tree's files
+-- what is told of an entry that isn't read
+abbrev pub path_unread : Unread → PathUnread
+path_unread entry = record { shown = entry.shown; bytes = entry.bytes; is_bad = entry.has_bad_path }
+
+-- the tree is that of the files below the folders, or of a list, as they are read in the options' dialect; this isn't
+-- read there and is left out, and these are the packages of the tree's files
 pub record AreFolders (lists : List ℕ → List ℕ → Option Listing → Type 0)
     (gives : List ℕ → Option (List ℕ) → Type 0)
     (finds : List ℕ → List ℕ → Bool → Type 0)
-    (options : IndexOptions) (tree : List TreeFile) (unread : List (List ℕ)) (ids : Packages) : Type 0 where
+    (options : IndexOptions) (tree : List TreeFile) (unread : List PathUnread) (ids : Packages) : Type 0 where
   pub own : List (List ℕ)
   pub others : List (List (List ℕ))
   pub files : List TreeFile
-  pub below : IsLoadedFrom lists gives finds options options.sources files own others unread
+  pub entries : List Unread
+  pub below : IsLoadedFrom lists gives finds options options.sources files own others entries
+  pub unread_are : unread ≡ map path_unread entries
   pub read : AreReadIn options.dialect files tree
   pub by : AreByFolder options own others ids
 

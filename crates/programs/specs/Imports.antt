@@ -12,7 +12,7 @@ use Rattle.scip_build.specs.Parsed.{HasLexing, IsUnreadable}
 use Rattle.scip_build.specs.declared.fault.FileFault.{FileFault}
 use Rattle.source_tree.specs.Files.{TreeFile}
 use Rattle.source_tree.specs.Mending.{IsMended}
-use Rattle.source_files.specs.Seen.{Import}
+use Rattle.source_files.specs.Reached.{Import}
 
 abbrev pub import_of : Imported → Import
 import_of imported = record { path = imported.path; is_public = is_public imported.kind }

@@ -9,12 +9,13 @@ use Rattle.scip_wire.specs.declared.wire_fault.WireFault.{WireFault}
 use Rattle.scip_join.specs.Gathered.{Gathered, gathered}
 use Rattle.scip_join.specs.Joined.{IsJoin}
 use Rattle.scip_join.specs.Pieces.{ArePiecesOf}
-use Rattle.scip_join.specs.Refused.{HasOtherRoot, IsAllowed, IsTwice}
+use Rattle.scip_join.specs.Refused.{HasOtherEncoding, HasOtherRoot, IsAllowed, IsTwice}
 use Rattle.scip_join.specs.declared.choices.JoinChoices.{JoinChoices}
 use Rattle.scip_join.specs.declared.join_fault.TwoDocuments.{TwoDocuments}
 use Rattle.scip_join.specs.declared.joined.JoinedIndex.{JoinedIndex}
 use Rattle.programs.specs.declared.files_fault.FilesFault.{FilesFault}
-use Rattle.programs.specs.declared.files_fault.FilesFault.TheVariants.{Read, OtherRoot, Twice, TooLarge, Memory}
+use Rattle.programs.specs.declared.files_fault.FilesFault.TheVariants.{Read, OtherRoot, OtherEncoding, Twice, TooLarge}
+use Rattle.programs.specs.declared.files_fault.FilesFault.TheVariants.{Memory}
 use Rattle.programs.specs.declared.index_fault.IndexFault.{IndexFault}
 use Rattle.programs.specs.declared.index_fault.IndexFault.TheVariants as one
 
@@ -30,11 +31,13 @@ pub data IsReadFrom (gives : Option (List ℕ) → Type 0) : Result Index IndexF
 
 -- ---- several files
 
--- a file holds this index, which comes behind these; its project root is that of the first, if none is asked for
+-- a file holds this index, which comes behind these; its project root is that of the first, if none is asked for, and it
+-- says no other text encoding
 pub record IsNext (gives : Option (List ℕ) → Type 0) (choices : JoinChoices) (indexes : List Index) (index : Index)
     : Type 0 where
   pub read : IsReadFrom gives (Ok index)
   pub own : ¬ (HasOtherRoot choices indexes index)
+  pub encoded : ¬ (HasOtherEncoding indexes index)
 
 -- why no index of the file with a number comes behind these
 pub data HasNoNext (gives : Option (List ℕ) → Type 0) (choices : JoinChoices) (indexes : List Index) (number : ℕ)
@@ -43,6 +46,8 @@ pub data HasNoNext (gives : Option (List ℕ) → Type 0) (choices : JoinChoices
       → HasNoNext gives choices indexes number (Read number fault)
   other_root : (index : Index) → IsReadFrom gives (Ok index) → HasOtherRoot choices indexes index
       → HasNoNext gives choices indexes number (OtherRoot number)
+  other_encoding : (index : Index) → IsReadFrom gives (Ok index) → HasOtherEncoding indexes index
+      → ¬ (HasOtherRoot choices indexes index) → HasNoNext gives choices indexes number (OtherEncoding number)
   adding_lacks_memory : HasNoNext gives choices indexes number Memory
 
 -- the files with these paths hold these indexes

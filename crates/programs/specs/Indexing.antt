@@ -14,6 +14,7 @@ use Rattle.protoscip.specs.Explanations.{explain_in}
 use Rattle.protoscip.specs.Indexes.{Indexes}
 use Rattle.protoscip.specs.declared.fault.Fault.{Fault}
 use Rattle.protoscip.specs.declared.recorded.Recorded.{Recorded}
+use Rattle.protoscip.specs.Unread.{PathUnread}
 use Rattle.command_line.specs.declared.options.IndexOptions.{IndexOptions}
 use Rattle.command_line.specs.declared.options.IndexRequest.{IndexRequest}
 use Rattle.programs.specs.declared.limits.LimitFault.{LimitFault}
@@ -35,7 +36,7 @@ use Rattle.programs.specs.TreeRuns.{AreNavigable, Ends}
 -- report goes where it is asked for, and the run ends; or its index breaks a limit, and the part is given up.
 pub data IndexesInto {P W Q V M : Type 0} (none_found : List TreeFile → Option (List ℕ) → Type 0) (asked : IndexRequest)
     (allows : Seen → Choice → Type 0) (settings : Settings) (workers : ℕ) (tree : List TreeFile)
-    (unread : List (List ℕ)) (at : Place P W) (report : Place Q V) (messages : Writer M) (status : ℕ) : Type 0 where
+    (unread : List PathUnread) (at : Place P W) (report : Place Q V) (messages : Writer M) (status : ℕ) : Type 0 where
   not_begun : (fault : StartFault) → MayNotBegin at report asked tree fault → IsLeft at → IsLeft report
       → Tells (start_told asked.options.explain fault) (start_status fault) messages status
       → IndexesInto none_found asked allows settings workers tree unread at report messages status
@@ -69,7 +70,7 @@ pub data Indexed {P W Q V M : Type 0} (lists : List ℕ → List ℕ → Option 
       → EndsUnstarted report suspects is_out asked.options.report fault said
       → TellsOne (IsStartTold blames asked.options.explain said) (start_status said) messages status
       → Indexed lists gives finds blames none_found suspects asked at report messages status
-  over_tree : (tree : List TreeFile) (unread : List (List ℕ)) (ids : Packages) → NamePackages asked.options
+  over_tree : (tree : List TreeFile) (unread : List PathUnread) (ids : Packages) → NamePackages asked.options
       → AreFolders lists gives finds asked.options tree unread ids
       → IndexesInto none_found asked (allowed_by asked.options) (settings_in asked.options ids) asked.options.workers
       tree unread at report messages status

@@ -15,6 +15,7 @@ use Rattle.protoscip.specs.Lines.{plain_line}
 use Rattle.protoscip.specs.declared.fault.Fault.{Fault}
 use Rattle.protoscip.specs.ToldLines.{is_skipped_source, left_out}
 use Rattle.protoscip.specs.declared.statuses.TheConstants.{SOURCES_STATUS}
+use Rattle.protoscip.specs.Unread.{PathUnread}
 use Rattle.programs.specs.declared.limits.TheConstants.{NO_LIMITS}
 use Rattle.programs.specs.declared.limits.LimitFault.{LimitFault}
 use Rattle.programs.specs.declared.limits.LimitFault.TheVariants.{TooManySkipped, TooFewSources}
@@ -35,18 +36,18 @@ too_few (Some least) indexed = if nat_lt indexed least then Some (TooFewSources 
 
 -- The limit that an index breaks which lacks this, of a tree with this many sources, without what couldn't be read:
 -- that of what is left out, or else the other one. Both count as the line with the numbers does.
-abbrev pub broken_by : Limits → (sources : ℕ) → (unread : List (List ℕ)) → List Omission → Option LimitFault
+abbrev pub broken_by : Limits → (sources : ℕ) → (unread : List PathUnread) → List Omission → Option LimitFault
 broken_by limits sources unread told =
     option_or (too_many limits.max_skipped (left_out unread told))
     (too_few limits.min_sources (sources - count_by (is_skipped_source sources) told))
 
 -- the limit that an index of a tree breaks which lacks this, if it breaks one
-abbrev pub Breaks : Limits → List TreeFile → (unread : List (List ℕ)) → List Omission → Option LimitFault → Type 0
+abbrev pub Breaks : Limits → List TreeFile → (unread : List PathUnread) → List Omission → Option LimitFault → Type 0
 Breaks limits tree unread told broken =
     (sources : ℕ) × IsSourceCount tree sources × (broken ≡ broken_by limits sources unread told)
 
 -- the limit that the index of a run breaks; without an index it breaks none
-abbrev pub IsBrokenBy : Limits → List TreeFile → (unread : List (List ℕ)) → (ran : Result (List Omission) Fault)
+abbrev pub IsBrokenBy : Limits → List TreeFile → (unread : List PathUnread) → (ran : Result (List Omission) Fault)
     → Option LimitFault → Type 0
 IsBrokenBy limits tree unread (Ok told) broken = Breaks limits tree unread told broken
 IsBrokenBy limits tree unread (Err fault) broken = broken ≡ None
@@ -89,7 +90,7 @@ limit_status = SOURCES_STATUS
 -- the end of a run whose index lacks this and breaks a limit: what it lacks is said as after a success, and then the
 -- limit; `dialect` is the one with which the former is explained
 abbrev pub EndsShort : {M : Type 0} → (none_found : Option (List ℕ) → Type 0) → (explain : Bool)
-    → (dialect : Option Dialect) → (real : Bool) → List TreeFile → (unread : List (List ℕ)) → List Omission
+    → (dialect : Option Dialect) → (real : Bool) → List TreeFile → (unread : List PathUnread) → List Omission
     → LimitFault → Writer M → (status : ℕ) → Type 0
 EndsShort {M} none_found explain dialect real tree unread lacks fault messages status =
     (said : M)

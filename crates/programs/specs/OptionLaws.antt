@@ -6,6 +6,7 @@ use Rattle.scip_model.specs.Packages.{Packages}
 use Rattle.protoscip.specs.Headline.{Navigates}
 use Rattle.protoscip.specs.Indexes.{IsIndexed}
 use Rattle.protoscip.specs.declared.recorded.Recorded.{Recorded}
+use Rattle.protoscip.specs.Unread.{PathUnread}
 use Rattle.command_line.specs.declared.options.IndexOptions.{IndexOptions}
 use Rattle.programs.specs.Settings.{allowed_by, settings_in}
 use Rattle.programs.specs.Folders.{AreFolders}
@@ -16,7 +17,7 @@ use Rattle.source_files.specs.Listings.{Listing}
 abbrev pub HeadlineOfFiles : (lists : List ℕ → List ℕ → Option Listing → Type 0)
     → (gives : List ℕ → Option (List ℕ) → Type 0) → (finds : List ℕ → List ℕ → Bool → Type 0) → IndexOptions → Type 0
 HeadlineOfFiles lists gives finds options =
-    (tree : List TreeFile) (unread : List (List ℕ)) (ids : Packages)
+    (tree : List TreeFile) (unread : List PathUnread) (ids : Packages)
     → AreFolders lists gives finds options tree unread ids
     → (recorded : Recorded) (bytes : List ℕ)
     → (indexed : IsIndexed (allowed_by options) (settings_in options ids) tree recorded bytes)

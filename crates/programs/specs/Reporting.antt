@@ -24,6 +24,7 @@ use Rattle.protoscip.specs.declared.fault.Fault.{Fault}
 use Rattle.protoscip.specs.declared.fault.Fault.TheVariants.{Spawn, Memory, Lex, Syntax, Duplicate, MissingImport}
 use Rattle.protoscip.specs.declared.fault.Fault.TheVariants.{Unresolved, Ambiguous, OptionGap, Uncertain}
 use Rattle.protoscip.specs.declared.fault.Fault.TheVariants.{TooLarge, Write, Read, Answer}
+use Rattle.protoscip.specs.Unread.{PathUnread}
 use Rattle.command_line.specs.declared.options.limits.Limits.{Limits}
 use Rattle.command_line.specs.declared.options.report.ReportOptions.{ReportOptions}
 use Rattle.programs.specs.Limits.{IsBrokenBy, limit_status}
@@ -62,15 +63,15 @@ is_of_files (Answer count) = false
 abbrev pub IsToldBeside : (allows : Seen → Choice → Type 0) → Settings → List TreeFile → Fault
     → (told : List Omission) → Type 0
 IsToldBeside allows settings tree fault told =
-    (is_of_files fault ≡ true → IsToldOf allows settings.dialect settings.options tree told)
+    (is_of_files fault ≡ true → IsToldOf allows settings tree told)
     × (is_of_files fault ≡ false → told ≡ [])
 
 -- its findings, and what they are counted by: what couldn't be read, and what the index lacks; or the fault, and what
 -- is told beside it. Of a run that is refused nothing is told that couldn't be read: if that isn't the fault itself,
 -- the run leaves it out, and tells its fault alone.
 pub data Finds (allows : Seen → Choice → Type 0) (settings : Settings) (tree : List TreeFile)
-    (unread : List (List ℕ))
-    : (ran : Result (List Omission) Fault) → List Found → (skipped : List (List ℕ)) → (told : List Omission)
+    (unread : List PathUnread)
+    : (ran : Result (List Omission) Fault) → List Found → (skipped : List PathUnread) → (told : List Omission)
     → Type 0 where
   of_index : {told : List Omission}
       → Finds allows settings tree unread (Ok told) (all_findings tree unread told) unread told
@@ -84,10 +85,10 @@ AreCounted tree (Err fault) sources = sources ≡ 0
 
 -- the bytes of a report of a run that is to end with a status
 pub record IsReport (allows : Seen → Choice → Type 0) (settings : Settings) (tree : List TreeFile)
-    (unread : List (List ℕ)) (format : ReportFormat) (ran : Result (List Omission) Fault) (status : ℕ)
+    (unread : List PathUnread) (format : ReportFormat) (ran : Result (List Omission) Fault) (status : ℕ)
     (bytes : List ℕ) : Type 0 where
   pub findings : List Found
-  pub skipped : List (List ℕ)
+  pub skipped : List PathUnread
   pub told : List Omission
   pub sources : ℕ
   pub found : Finds allows settings tree unread ran findings skipped told
@@ -126,7 +127,7 @@ path_asked options = option_map string_bytes options.path
 
 -- what becomes of the report of a run whose index has to keep limits
 abbrev pub Reports : {Q V : Type 0} → Place Q V → ReportOptions → Limits → (allows : Seen → Choice → Type 0)
-    → Settings → (workers : ℕ) → List TreeFile → (unread : List (List ℕ)) → (ran : Result (List Omission) Fault)
+    → Settings → (workers : ℕ) → List TreeFile → (unread : List PathUnread) → (ran : Result (List Omission) Fault)
     → (reported : Result (Unit {0}) Fault) → Type 0
 Reports at options limits allows settings workers tree unread ran reported =
     (broken : Option LimitFault) × IsBrokenBy limits tree unread ran broken

@@ -12,6 +12,7 @@ use Rattle.protoscip.specs.Explanations.{explain_in}
 use Rattle.protoscip.specs.Sessions.{AreAnswered, AreUntouched, Serves}
 use Rattle.protoscip.specs.declared.fault.Fault.{Fault}
 use Rattle.protoscip.specs.declared.recorded.Recorded.{Recorded}
+use Rattle.protoscip.specs.Unread.{PathUnread}
 use Rattle.command_line.specs.declared.options.IndexOptions.{IndexOptions}
 use Rattle.programs.specs.Folders.{AreFolders, NamePackages}
 use Rattle.programs.specs.Limits.{no_limits}
@@ -47,13 +48,13 @@ pub data Served {Q V R W M : Type 0} (manner : Manner) (lists : List ℕ → Lis
       → EndsUnstarted report suspects false options.report fault said
       → TellsOne (IsStartTold blames options.explain said) (start_status said) messages status
       → Served manner lists gives finds blames none_found suspects options report commands answers messages status
-  not_begun : (tree : List TreeFile) (unread : List (List ℕ)) (ids : Packages) (fault : StartFault)
+  not_begun : (tree : List TreeFile) (unread : List PathUnread) (ids : Packages) (fault : StartFault)
       → NamePackages options → AreFolders lists gives finds options tree unread ids
       → MayNotReport report options tree fault
       → IsUnserved report commands answers
       → Tells (start_told options.explain fault) (start_status fault) messages status
       → Served manner lists gives finds blames none_found suspects options report commands answers messages status
-  over_tree : (tree : List TreeFile) (unread : List (List ℕ)) (ids : Packages) (ran : Result Recorded Fault)
+  over_tree : (tree : List TreeFile) (unread : List PathUnread) (ids : Packages) (ran : Result Recorded Fault)
       (reported : Result (Unit {0}) Fault) → NamePackages options → AreFolders lists gives finds options tree unread ids
       → IfSome options.report.path (λ _. IsRead report options tree false)
       → Serves manner commands answers (allowed_by options) (settings_in options ids) tree options.workers ran

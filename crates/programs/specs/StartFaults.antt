@@ -8,6 +8,7 @@ use Rattle.programs.specs.declared.start_fault.StartFault.TheVariants.{BadPart, 
 use Rattle.programs.specs.declared.start_fault.StartFault.TheVariants.{ReportIsSource, ReportIsOut, Unlisted}
 use Rattle.programs.specs.declared.statuses.TheConstants.{COMMAND_LINE_STATUS}
 use Rattle.protoscip.specs.Lines.{path_line, plain_line}
+use Rattle.protoscip.specs.Unread.{bad_path_sentence}
 use Rattle.protoscip.specs.declared.statuses.TheConstants.{MEMORY_STATUS, SOURCES_STATUS, STREAM_STATUS}
 
 -- the name in its line, and the path, if it names one; a sentence about it; and the exit status
@@ -36,8 +37,7 @@ said_of (Load (Unreadable path)) =
 said_of (Load TooMany) =
     said (load_name TooMany) None (codes "the sources and the included files are at most 65536") SOURCES_STATUS
 said_of (Load (BadPath path)) =
-    said (load_name (BadPath path)) (Some (string_bytes path))
-    (codes "a path has at most 4096 bytes, and no character below U+0020") SOURCES_STATUS
+    said (load_name (BadPath path)) (Some (string_bytes path)) bad_path_sentence SOURCES_STATUS
 said_of (Load (SamePath path)) =
     said (load_name (SamePath path)) (Some (string_bytes path)) (codes "two sources have this path") SOURCES_STATUS
 said_of (Load Memory) = said (load_name Memory) None (codes "memory ran out") MEMORY_STATUS

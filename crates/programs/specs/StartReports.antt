@@ -21,7 +21,7 @@ use Rattle.programs.specs.declared.start_fault.StartFault.TheVariants.{Load}
 
 -- a file, as a whole
 abbrev pub whole_file : (path : List ℕ) → FoundPlace
-whole_file path = record { path = path; text = []; offset = None; end = None }
+whole_file path = record { path = path; bytes = path; text = []; offset = None; end = None }
 
 abbrev pub finding_of : StartFault → Found
 finding_of fault = record {

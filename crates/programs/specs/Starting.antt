@@ -77,8 +77,8 @@ abbrev pub MayNotLoadList : (gives : List ℕ → Option (List ℕ) → Type 0) 
     → IndexOptions → SourceList → LoadFault → Type 0
 MayNotLoadList gives finds options list fault =
     (paths : List (List ℕ)) × AreSourcesListed options list paths
-    × MayNotLoadListed finds gives (TellsIn options.dialect) (leaves_out options.faulty) (roots_in options)
-    paths fault
+    × MayNotLoadListed finds gives (TellsIn options.dialect) (leaves_out options.faulty) options.links_options
+    (roots_in options) paths fault
 
 -- why a program about the tree of a list doesn't start: what can't be read is the fault of its line if, and only if, it
 -- is listed; or memory ran out

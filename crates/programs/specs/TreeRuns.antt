@@ -15,6 +15,7 @@ use Rattle.protoscip.specs.Explanations.{IsFaultText}
 use Rattle.protoscip.specs.Headline.{IsNavigable}
 use Rattle.protoscip.specs.FaultTexts.{status_of}
 use Rattle.protoscip.specs.ToldLines.{IsToldTextWith}
+use Rattle.protoscip.specs.Unread.{PathUnread}
 use Rattle.command_line.specs.declared.options.IndexOptions.{IndexOptions}
 use Rattle.programs.specs.Messages.{SaysIfAny, TellsOne}
 use Rattle.programs.specs.Missing.{IsWithMissing}
@@ -25,19 +26,19 @@ use Rattle.source_files.specs.Listings.{Listing}
 -- a line for each thing that couldn't be read or that an index lacks, then their numbers, and for a tree as it lies
 -- what is missing
 abbrev pub IsWholeText : (explain : Option Dialect) → (real : Bool) → List TreeFile → (sources : ℕ)
-    → (unread : List (List ℕ)) → List Omission → (text : List ℕ) → Type 0
+    → (unread : List PathUnread) → List Omission → (text : List ℕ) → Type 0
 IsWholeText explain real tree sources unread told text =
     (front : List ℕ) × IsToldTextWith explain tree sources unread told front × IsWithMissing real tree told front text
 
 -- the same, by the number of the tree's sources
-abbrev pub IsSomeWholeText : (explain : Option Dialect) → (real : Bool) → List TreeFile → (unread : List (List ℕ))
+abbrev pub IsSomeWholeText : (explain : Option Dialect) → (real : Bool) → List TreeFile → (unread : List PathUnread)
     → List Omission → Option (List ℕ) → Type 0
 IsSomeWholeText explain real tree unread told text =
     (sources : ℕ) × IsSourceCount tree sources
     × ((said : List ℕ) × IsWholeText explain real tree sources unread told said × (text ≡ Some said))
 
 -- what is said of an index that lacks this: nothing if nothing is lacking, else all that
-abbrev pub IsWholeTextIfAny : (explain : Option Dialect) → (real : Bool) → List TreeFile → (unread : List (List ℕ))
+abbrev pub IsWholeTextIfAny : (explain : Option Dialect) → (real : Bool) → List TreeFile → (unread : List PathUnread)
     → List Omission → Option (List ℕ) → Type 0
 IsWholeTextIfAny explain real tree [] [] text = text ≡ None
 IsWholeTextIfAny explain real tree [] (first ∷ others) text = IsSomeWholeText explain real tree [] (first ∷ others) text
@@ -45,7 +46,7 @@ IsWholeTextIfAny explain real tree (path ∷ unread) told text = IsSomeWholeText
 
 -- `says` says how a text with a property is written after a success: here all that
 abbrev pub SaysAll : {M : Type 0} → (says : (List ℕ → Type 0) → Writer M → (status : ℕ) → Type 0)
-    → (explain : Option Dialect) → (real : Bool) → List TreeFile → (unread : List (List ℕ)) → List Omission → Writer M
+    → (explain : Option Dialect) → (real : Bool) → List TreeFile → (unread : List PathUnread) → List Omission → Writer M
     → (status : ℕ) → Type 0
 SaysAll says explain real tree unread told messages status =
     (sources : ℕ) × IsSourceCount tree sources
@@ -55,7 +56,7 @@ SaysAll says explain real tree unread told messages status =
 -- the line of none found is said, if there is one; else all that is
 abbrev pub SaysOmissions : {M : Type 0} → (says : (List ℕ → Type 0) → Writer M → (status : ℕ) → Type 0)
     → (none_found : Option (List ℕ) → Type 0) → (explain : Option Dialect) → (real : Bool) → List TreeFile
-    → (unread : List (List ℕ)) → List Omission → Writer M → (status : ℕ) → Type 0
+    → (unread : List PathUnread) → List Omission → Writer M → (status : ℕ) → Type 0
 SaysOmissions says none_found explain real tree [] [] messages status =
     (line : Option (List ℕ)) × none_found line × SaysIfAny line messages status
 SaysOmissions says none_found explain real tree [] (first ∷ others) messages status =
@@ -67,7 +68,7 @@ SaysOmissions says none_found explain real tree (path ∷ unread) told messages 
 -- alone, explained if that is asked for, with its status
 abbrev pub Ends : {M A : Type 0} → (says : (List ℕ → Type 0) → Writer M → (status : ℕ) → Type 0)
     → (none_found : Option (List ℕ) → Type 0) → (explain : Option Dialect) → (real : Bool) → List TreeFile
-    → (unread : List (List ℕ)) → (A → List Omission) → Result A Fault → Writer M → (status : ℕ) → Type 0
+    → (unread : List PathUnread) → (A → List Omission) → Result A Fault → Writer M → (status : ℕ) → Type 0
 Ends says none_found explain real tree unread told_of (Ok done) messages status =
     SaysOmissions says none_found explain real tree unread (told_of done) messages status
 Ends says none_found explain real tree unread told_of (Err fault) messages status =
@@ -79,7 +80,7 @@ pub record AreNavigable (lists : List ℕ → List ℕ → Option Listing → Ty
     (gives : List ℕ → Option (List ℕ) → Type 0) (finds : List ℕ → List ℕ → Bool → Type 0)
     (options : IndexOptions) (goes : (bytes : List ℕ) → Index → Type 0) : Type 0 where
   pub tree : List TreeFile
-  pub unread : List (List ℕ)
+  pub unread : List PathUnread
   pub ids : Packages
   pub recorded : Recorded
   pub folders : AreFolders lists gives finds options tree unread ids

@@ -14,7 +14,7 @@ use crate::messages::report;
 use crate::missing::with_missing;
 use crate::starting::TreeRun;
 use proto_parse::Dialect;
-use protoscip::{Fault, Telling, Tells, fault_text, omits_nothing, told_text_with};
+use protoscip::{Fault, Telling, Tells, UnreadPath, fault_text, omits_nothing, told_text_with};
 use scip_build::Omission;
 use scip_site::say;
 use source_tree::Tree;
@@ -34,14 +34,14 @@ pub(crate) struct Closing {
 fn whole_text(
     alloc: Global,
     tree: &Tree,
-    unread: &[String],
+    unread: &[UnreadPath],
     told: &[Omission],
     closing: Closing,
 ) -> Result<String, AllocError>
     requires { HaveFilesOf tree.now told.now }
     ensures { (sources : ℕ) × IsSourceCount tree.now sources
         × IfOk result (λ text. IsWholeText closing.explain closing.is_real tree.now sources
-        (map string_bytes unread.now) told.now (string_bytes text)) }
+        unread.now told.now (string_bytes text)) }
 {
     let telling = Telling {
         unread,
@@ -56,15 +56,15 @@ fn whole_text(
 /// How that is told which an index of a run lacks.
 #[derive(Clone, Copy)]
 pub(crate) struct WholeTelling<'a> {
-    /// What couldn't be read below the folders of the run, and was left out: a path for each.
-    pub(crate) unread: &'a [String],
+    /// What isn't read below the folders of the run, and is left out.
+    pub(crate) unread: &'a [UnreadPath],
     pub(crate) closing: Closing,
 }
 
 impl Tells for WholeTelling<'_> {
     // All that is lacking, and of a tree as it lies what is missing.
     ghost tells = { λ whole tree told text. IsWholeTextIfAny whole.closing.explain whole.closing.is_real tree
-        (map string_bytes whole.unread.now) told text };
+        whole.unread.now told text };
 
     /// The text of what couldn't be read, and of what an index of the tree lacks; nothing if nothing is lacking.
     fn text(
@@ -92,7 +92,7 @@ pub(crate) fn tell<M: Sink>(
     requires { HaveFilesOf run.now.tree told.now }
     ensures { SaysOmissions TellsOfSuccess (λ line. line ≡ option_map string_bytes run.now.none_found)
         closing.explain closing.is_real run.now.tree
-        (map string_bytes run.now.unread.items) told.now
+        run.now.unread.items told.now
         (writer M.Sink messages) result }
 {
     let unread = run.unread.as_slice();

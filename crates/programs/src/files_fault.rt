@@ -28,6 +28,8 @@ pub(crate) enum FilesFault {
     Read(usize, IndexFault),
     /// No project root is asked for, and the index of the file with this number has another one than the first.
     OtherRoot(usize),
+    /// The index of the file with this number says another text encoding than the first.
+    OtherEncoding(usize),
     /// Two documents have one path, and none is to be replaced.
     Twice(TwoDocuments),
     /// The join is larger than an index may be.
@@ -114,6 +116,9 @@ impl FilesFault {
             FilesFault::OtherRoot(number) => {
                 path_line(alloc, path_at(paths, *number), "OtherRoot")
             }
+            FilesFault::OtherEncoding(number) => {
+                path_line(alloc, path_at(paths, *number), "OtherEncoding")
+            }
             FilesFault::Twice(two) => {
                 let earlier = path_at(paths, two.earlier);
                 let later = path_at(paths, two.later);
@@ -132,6 +137,9 @@ impl FilesFault {
             FilesFault::Read(_, fault) => fault.said().explanation,
             FilesFault::OtherRoot(_) => {
                 "\nits project root isn't that of the first index: --project-root gives the join one"
+            }
+            FilesFault::OtherEncoding(_) => {
+                "\nits text encoding isn't that of the first index: an index has one"
             }
             FilesFault::Twice(_) => twice_explanation(by),
             FilesFault::TooLarge => "\nan index has at most 2147483647 bytes",
@@ -160,6 +168,7 @@ impl FilesFault {
         match self {
             FilesFault::Read(number, fault) => unread_if(fault, path_at(paths, *number), explain),
             FilesFault::OtherRoot(_)
+            | FilesFault::OtherEncoding(_)
             | FilesFault::Twice(_)
             | FilesFault::TooLarge
             | FilesFault::Memory => None,
@@ -172,7 +181,9 @@ impl FilesFault {
     {
         match self {
             FilesFault::Read(_, fault) => fault.status(),
-            FilesFault::OtherRoot(_) | FilesFault::Twice(_) => INDEX_STATUS,
+            FilesFault::OtherRoot(_) | FilesFault::OtherEncoding(_) | FilesFault::Twice(_) => {
+                INDEX_STATUS
+            }
             FilesFault::TooLarge => STREAM_STATUS,
             FilesFault::Memory => MEMORY_STATUS,
         }

@@ -3,6 +3,7 @@
 ghost use Rattle.std.specs.Prelude.{◌≡◌, ◌∷◌, ◌++◌, [], IfOk, IfErr, None, OnOk, map, string_bytes, All};
 ghost use Rattle.scip_build.specs.AsRead.{AreReadIn};
 ghost use Rattle.scip_symbol.specs.Package.{IsPackage};
+ghost use Rattle.source_files.specs.Unread.{unread_of};
 ghost use Rattle.programs.specs.Settings.{leaves_out, package_in};
 ghost use Rattle.programs.specs.Folders.{
   AddsRoots,
@@ -12,6 +13,7 @@ ghost use Rattle.programs.specs.Folders.{
   folder_package,
   included_in,
   included_packages,
+  path_unread,
   roots_in,
   roots_of,
 };
@@ -20,8 +22,10 @@ ghost use Rattle.programs.specs.Starting.{HasNoPackage, IsBadFolder, MayNotStart
 use crate::listed_folders::folders_of_list;
 use crate::package::package_of;
 use crate::start_fault::StartFault;
+use crate::unread_paths::paths_unread;
 use command_line::{IndexOptions, PackageFolder};
 use index_pool::Gate;
+use protoscip::UnreadPath;
 use scip_build::as_read;
 use scip_model::{FilePackages, RootPackage};
 use scip_symbol::PackageId;
@@ -153,11 +157,11 @@ fn add_folders(
     Ok(())
 }
 
-/// A tree, the paths of what couldn't be read and was left out of it, and the packages that its files belong to.
+/// A tree, what isn't read and is left out of it, and the packages that its files belong to.
 #[derive(Drop)]
 pub(crate) struct Folders {
     pub(crate) tree: Tree,
-    pub(crate) unread: Vec<String>,
+    pub(crate) unread: Vec<UnreadPath>,
     pub(crate) packages: FilePackages,
 }
 
@@ -194,7 +198,7 @@ pub(crate) fn folders_by(
 ) -> Result<Folders, StartFault>
     requires { ids.items ≡ map folder_package options.now.include_packages.items }
     ensures read { IfOk result (λ made. AreReadIn options.now.dialect loaded.tree made.tree) }
-    ensures unread { IfOk result (λ made. map string_bytes made.unread.items ≡ map string_bytes loaded.unread.items) }
+    ensures unread { IfOk result (λ made. made.unread.items ≡ map path_unread (map unread_of loaded.unread.items)) }
     ensures by { IfOk result (λ made. AreByFolder options.now (map string_bytes loaded.own.items)
         (map (λ here. map string_bytes here.items) loaded.others.items) made.packages) }
     ensures bad { IfErr result (NamesNone options.now) }
@@ -207,6 +211,7 @@ pub(crate) fn folders_by(
     } = loaded;
     let packages = packages_by(alloc, options, ids, own, others)?;
     let read = as_read(alloc, options.dialect, tree)?;
+    let unread = paths_unread(alloc, unread)?;
     Ok(Folders {
         tree: read,
         unread,
@@ -240,7 +245,7 @@ fn folders_walked<R: Threads + Wait, G: Gate, F: ReadFiles + Sync>(
     ensures named { IfOk result (λ _. NamePackages options.now) }
     ensures folders { IfOk result (λ made. AreFolders (F.lists readers.now.files.now) (F.gives readers.now.files.now)
         (F.finds readers.now.files.now)
-        options.now made.tree (map string_bytes made.unread.items) made.packages) }
+        options.now made.tree made.unread.items made.packages) }
     ensures stops { IfErr result (MayNotStart (F.lists readers.now.files.now) (F.gives readers.now.files.now)
         (F.finds readers.now.files.now)
         options.now) }
@@ -253,6 +258,7 @@ fn folders_walked<R: Threads + Wait, G: Gate, F: ReadFiles + Sync>(
         let found = load_tree(readers, root, &options.include)?;
         let Loaded { tree, unread } = found;
         let read = as_read(alloc, options.dialect, tree)?;
+        let unread = paths_unread(alloc, unread)?;
         return Ok(Folders {
             tree: read,
             unread,
@@ -266,7 +272,7 @@ fn folders_walked<R: Threads + Wait, G: Gate, F: ReadFiles + Sync>(
 }
 
 /// The tree of the sources below the root and of the files below the included folders, or of the sources that a list
-/// names and of the files that they see there, as they are read in the dialect of the options, and the packages that
+/// names and of the files that they reach there, as they are read in the dialect of the options, and the packages that
 /// they belong to: of files with one path the first counts. Whether what can't be read is left out, the options have to
 /// say as the readers do.
 ///
@@ -280,7 +286,7 @@ pub(crate) fn load_folders<R: Threads + Wait, G: Gate, F: ReadFiles + Sync>(
     ensures named { IfOk result (λ _. NamePackages options.now) }
     ensures folders { IfOk result (λ made. AreFolders (F.lists readers.now.files.now) (F.gives readers.now.files.now)
         (F.finds readers.now.files.now)
-        options.now made.tree (map string_bytes made.unread.items) made.packages) }
+        options.now made.tree made.unread.items made.packages) }
     ensures stops { IfErr result (MayNotStart (F.lists readers.now.files.now) (F.gives readers.now.files.now)
         (F.finds readers.now.files.now)
         options.now) }

@@ -71,6 +71,7 @@ fn add_file<F: ReadFiles>(
     match join.add(alloc, index) {
         Ok(()) => Ok(()),
         Err(JoinFault::OtherRoot) => Err(FilesFault::OtherRoot(number)),
+        Err(JoinFault::OtherEncoding) => Err(FilesFault::OtherEncoding(number)),
         Err(_) => Err(FilesFault::Memory),
     }
 }

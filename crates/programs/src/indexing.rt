@@ -53,9 +53,9 @@ fn end<M: Sink>(
 ) -> u8
     requires files { IfErr done (HasFilesOf run.now.tree) }
     requires said { IfOk done (λ kept. IsWholeTextIfAny closing.explain closing.is_real run.now.tree
-        (map string_bytes run.now.unread.items) kept.built.told (option_map string_bytes kept.text)) }
+        run.now.unread.items kept.built.told (option_map string_bytes kept.text)) }
     ensures { Ends SaysOfSuccess (λ line. line ≡ option_map string_bytes run.now.none_found) closing.explain
-        closing.is_real run.now.tree (map string_bytes run.now.unread.items) (λ kept. kept.built.told) done.entry
+        closing.is_real run.now.tree run.now.unread.items (λ kept. kept.built.told) done.entry
         (writer M.Sink messages) result }
 {
     match done {
@@ -146,7 +146,7 @@ fn broken_limit(
     run: &TreeRun,
     done: &Result<KeptIndex<'_>, Fault>,
 ) -> Option<LimitFault>
-    ensures made { IfOk done.now (λ kept. Breaks limits run.now.tree (map string_bytes run.now.unread.items)
+    ensures made { IfOk done.now (λ kept. Breaks limits run.now.tree run.now.unread.items
         kept.built.told result) }
     ensures unmade { IfErr done.now (λ _. result ≡ None) }
 {
@@ -212,7 +212,7 @@ where
     R: Threads + Wait + Clock + Eprint + Sync,
     ensures { IndexesInto (λ _ line. line ≡ option_map string_bytes run.now.none_found) request.now
         (IsChosenBy (option_map (λ f. string_bytes f.promise.0) run.now.choices.filter) (option_map (λ r. r.promise.0)
-        run.now.choices.rule)) run.now.settings run.now.workers run.now.tree (map string_bytes run.now.unread.items)
+        run.now.choices.rule)) run.now.settings run.now.workers run.now.tree run.now.unread.items
         (place P.OutPlace P.Part.Sink places.old.file places.new.file)
         (place Q.OutPlace Q.Part.Sink places.old.report
         places.new.report) (writer M.Sink messages) result }

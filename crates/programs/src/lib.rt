@@ -48,6 +48,7 @@ mod start_explanations;
 mod start_fault;
 mod start_reports;
 mod starting;
+mod unread_paths;
 
 // The list of sources, and the well-known files, where they are asked for.
 mod list_places;

@@ -7,7 +7,7 @@ ghost use Rattle.programs.specs.Messages.{Tells};
 
 use crate::messages::report;
 use command_line::Limits;
-use protoscip::{SOURCES_STATUS, count_left_out, count_skipped_sources, plain_line};
+use protoscip::{SOURCES_STATUS, UnreadPath, count_left_out, count_skipped_sources, plain_line};
 use scip_build::Omission;
 use std::alloc::{AllocError, Global};
 use streams::Sink;
@@ -116,10 +116,10 @@ fn too_few(least: Option<usize>, indexed: usize) -> Option<LimitFault>
 pub(crate) fn broken_by(
     limits: Limits,
     sources: usize,
-    unread: &[String],
+    unread: &[UnreadPath],
     told: &[Omission],
 ) -> Option<LimitFault>
-    ensures { result ≡ broken_by limits sources (map string_bytes unread.now) told.now }
+    ensures { result ≡ broken_by limits sources unread.now told.now }
 {
     let indexed = sources.saturating_sub(count_skipped_sources(sources, told));
     let skipped = count_left_out(unread, told);

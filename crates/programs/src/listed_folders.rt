@@ -1,10 +1,11 @@
-//! The tree of the sources that a list names, and of the files below the folders that these see.
+//! The tree of the sources that a list names, and of the files below the folders that these reach.
 
 ghost use Rattle.std.specs.Prelude.{◌≡◌, ◌≢◌, ◌++◌, ◌∷◌, [], ℕ, List, All, IfErr, IfOk, MatchOption, OnOk, codes, map};
 ghost use Rattle.std.specs.Prelude.{Some, string_bytes};
 ghost use Rattle.std.specs.Fmt.{decimal};
 ghost use Rattle.source_files.specs.Exclusions.{PathsStay};
 ghost use Rattle.source_files.specs.ListedTrees.{IsTreeListed};
+ghost use Rattle.source_files.specs.Unread.{unread_of};
 ghost use Rattle.programs.specs.Folders.{AreFolders, AreSourcesListed, NamePackages, roots_in};
 ghost use Rattle.programs.specs.Imports.{TellsIn};
 ghost use Rattle.programs.specs.Settings.{leaves_out};
@@ -117,7 +118,7 @@ fn fault_of(alloc: Global, list: &SourceList, fault: LoadFault) -> StartFault
 }
 
 /// The tree of the sources that a list names below the root of the options, and of the files below the root and the
-/// included folders that these see.
+/// included folders that these reach.
 #[tactic(auto, using(crate::proofs::StartingRules::of_list_tree))]
 fn load_list<R: Threads + Wait, G: Gate, F: ReadFiles + Sync>(
     readers: &Readers<'_, R, G, F>,
@@ -127,8 +128,9 @@ fn load_list<R: Threads + Wait, G: Gate, F: ReadFiles + Sync>(
     requires { readers.now.leaves_out ≡ leaves_out options.now.faulty }
     ensures loaded { IfOk result (λ loaded. (paths : List (List ℕ)) × AreSourcesListed options.now list.now paths
         × IsTreeListed (F.finds readers.now.files.now) (F.gives readers.now.files.now) (TellsIn options.now.dialect)
-        (leaves_out options.now.faulty) (roots_in options.now) paths loaded.tree (map string_bytes loaded.own.items)
-        (map (λ here. map string_bytes here.items) loaded.others.items) (map string_bytes loaded.unread.items)) }
+        (leaves_out options.now.faulty) options.now.links_options (roots_in options.now) paths loaded.tree
+        (map string_bytes loaded.own.items)
+        (map (λ here. map string_bytes here.items) loaded.others.items) (map unread_of loaded.unread.items)) }
     ensures stops { IfErr result (MayNotStartList (F.gives readers.now.files.now) (F.finds readers.now.files.now)
         options.now list.now) }
 {
@@ -138,13 +140,13 @@ fn load_list<R: Threads + Wait, G: Gate, F: ReadFiles + Sync>(
     let finder = ImportsIn {
         dialect: options.dialect,
     };
-    match load_listed(readers, &finder, &roots, listed) {
+    match load_listed(readers, &finder, options.links_options, &roots, listed) {
         Ok(loaded) => Ok(loaded),
         Err(fault) => Err(fault_of(alloc, list, fault)),
     }
 }
 
-/// The tree of the sources that a list names and of the files that they see, as they are read in the dialect of the
+/// The tree of the sources that a list names and of the files that they reach, as they are read in the dialect of the
 /// options, and the packages that they belong to.
 pub(crate) fn folders_of_list<R: Threads + Wait, G: Gate, F: ReadFiles + Sync>(
     readers: &Readers<'_, R, G, F>,
@@ -156,7 +158,7 @@ pub(crate) fn folders_of_list<R: Threads + Wait, G: Gate, F: ReadFiles + Sync>(
     ensures named { IfOk result (λ _. NamePackages options.now) }
     ensures folders { IfOk result (λ made. AreFolders (F.lists readers.now.files.now) (F.gives readers.now.files.now)
         (F.finds readers.now.files.now)
-        options.now made.tree (map string_bytes made.unread.items) made.packages) }
+        options.now made.tree made.unread.items made.packages) }
     ensures stops { IfErr result (MayNotStart (F.lists readers.now.files.now) (F.gives readers.now.files.now)
         (F.finds readers.now.files.now)
         options.now) }

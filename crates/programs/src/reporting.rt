@@ -121,7 +121,7 @@ fn limit_broken(
     fault: Option<Fault>,
     told: &[Omission],
 ) -> Option<LimitFault>
-    ensures { IsBrokenBy limits run.now.tree (map string_bytes run.now.unread.items) (ran_of told.now fault) result }
+    ensures { IsBrokenBy limits run.now.tree run.now.unread.items (ran_of told.now fault) result }
 {
     match fault {
         Some(_) => None,
@@ -139,8 +139,8 @@ fn report_of_index(
 ) -> Result<Vec<u8>, AllocError>
     requires { HaveFilesOf run.now.tree told.now }
     ensures { IfOk result (λ bytes. (sources : ℕ) × IsSourceCount run.now.tree sources
-        × (bytes.items ≡ report_of format (all_findings run.now.tree (map string_bytes run.now.unread.items) told.now)
-        (counts_with sources (map string_bytes run.now.unread.items) told.now status))) }
+        × (bytes.items ≡ report_of format (all_findings run.now.tree run.now.unread.items told.now)
+        (counts_with sources run.now.unread.items told.now status))) }
 {
     let unread = run.unread.as_slice();
     let findings = all_findings(alloc, &run.tree, unread, told)?;
@@ -180,13 +180,8 @@ impl<R: Threads + Wait> Reporter<'_, R> {
             return Ok(Sequence::new(self.alloc));
         }
         let work = self.run.over(self.rt, self.alloc, &NoGate);
-        told_of_tree(
-            &work,
-            &self.run.tree,
-            &self.run.choices,
-            self.run.settings.dialect,
-            self.run.settings.options,
-        )
+        let run = self.run;
+        told_of_tree(&work, &run.tree, &run.choices, &run.settings)
     }
 
     /// The bytes of the report of a run that has a fault, or whose index lacks this; it is to end with this status.
@@ -197,7 +192,7 @@ impl<R: Threads + Wait> Reporter<'_, R> {
         requires status { IfSome fault (λ fault. status ≡ status_of fault) }
         ensures made { IfOk result (λ bytes. IsReport (IsChosenBy (option_map (λ f. string_bytes f.promise.0)
             self.now.run.now.choices.filter) (option_map (λ r. r.promise.0) self.now.run.now.choices.rule))
-            self.now.run.now.settings self.now.run.now.tree (map string_bytes self.now.run.now.unread.items)
+            self.now.run.now.settings self.now.run.now.tree self.now.run.now.unread.items
             self.now.options.now.format (ran_of told.now fault) status bytes.items) }
         ensures stops { IfErr result (MayNotTell self.now.run.now.workers) }
     {
@@ -245,7 +240,7 @@ pub(crate) fn report_run<R: Threads + Wait, Q: OutPlace>(
         reporter.now.options.now reporter.now.limits (IsChosenBy (option_map (λ f. string_bytes f.promise.0)
         reporter.now.run.now.choices.filter) (option_map (λ r. r.promise.0) reporter.now.run.now.choices.rule))
         reporter.now.run.now.settings reporter.now.run.now.workers reporter.now.run.now.tree
-        (map string_bytes reporter.now.run.now.unread.items) (ran_of told.now fault) result }
+        reporter.now.run.now.unread.items (ran_of told.now fault) result }
 {
     let broken = limit_broken(reporter.limits, reporter.run, fault, told);
     if reporter.options.path.is_none() {

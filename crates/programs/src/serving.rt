@@ -43,7 +43,7 @@ fn end<M: Sink>(
     requires told { IfOk done.now (λ recorded. HaveFilesOf run.now.tree recorded.told) }
     ensures { Ends TellsOfSuccess (λ line. line ≡ option_map string_bytes run.now.none_found) closing.explain
         closing.is_real run.now.tree
-        (map string_bytes run.now.unread.items) (λ recorded. recorded.told) done.now
+        run.now.unread.items (λ recorded. recorded.told) done.now
         (writer M.Sink messages) result }
 {
     match done {

@@ -5,7 +5,9 @@ ghost use Rattle.programs.specs.declared.start_fault.StartFault.TheVariants.{Loa
 ghost use Rattle.programs.specs.StartFaults.{line_of, line_with, name_of, path_of, sentence_of, status_of};
 
 use crate::statuses::COMMAND_LINE_STATUS;
-use protoscip::{MEMORY_STATUS, SOURCES_STATUS, STREAM_STATUS, path_line, plain_line};
+use protoscip::{
+    MEMORY_STATUS, SOURCES_STATUS, STREAM_STATUS, bad_path_sentence, path_line, plain_line,
+};
 use source_files::LoadFault;
 use source_tree::MAX_FILES;
 use std::alloc::{AllocError, Global};
@@ -120,8 +122,7 @@ fn said_of_load(fault: &LoadFault) -> StartSaid<'_>
             plain(name, sentence, SOURCES_STATUS)
         }
         LoadFault::BadPath(path) => {
-            let sentence = "a path has at most 4096 bytes, and no character below U+0020";
-            at_path(path.as_str(), name, sentence, SOURCES_STATUS)
+            at_path(path.as_str(), name, bad_path_sentence(), SOURCES_STATUS)
         }
         LoadFault::SamePath(path) => {
             at_path(

@@ -17,6 +17,7 @@ use crate::settings::{leaves_out, only_of, settings_of};
 use crate::start_fault::StartFault;
 use command_line::IndexOptions;
 use index_pool::Workers;
+use protoscip::UnreadPath;
 use scip_build::{Run, Settings};
 use source_files::{LookAgain, ReadFiles, Readers};
 use source_tree::Tree;
@@ -30,7 +31,7 @@ pub(crate) struct TreeRun {
     /// The sources below the root, and the files below the included roots.
     pub(crate) tree: Tree,
     /// The paths of what couldn't be read below these, and was left out.
-    pub(crate) unread: Vec<String>,
+    pub(crate) unread: Vec<UnreadPath>,
     /// The line that says that there are no sources, if it is to be said.
     pub(crate) none_found: Option<String>,
     /// What is chosen for each declaration.
@@ -90,7 +91,7 @@ pub(crate) fn start<R: Threads + Wait, F: ReadFiles + LookAgain + Sync>(
     ensures named { IfOk result (λ _. NamePackages options.now) }
     ensures folders { IfOk result (λ start. AreFolders (F.lists host.now.files.now) (F.gives host.now.files.now)
         (F.finds host.now.files.now)
-        options.now start.tree (map string_bytes start.unread.items) start.settings.package) }
+        options.now start.tree start.unread.items start.settings.package) }
     ensures none_found { IfOk result (λ start. NoneFoundBy (F.passes host.now.files.now) host.now.is_watched options.now
         start.tree (option_map string_bytes start.none_found)) }
     ensures only { IfOk result (λ start. option_map (λ f. string_bytes f.promise.0) start.choices.filter ≡ option_map

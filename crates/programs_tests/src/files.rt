@@ -1,6 +1,8 @@
 //! Files in memory.
 
-use source_files::{EmptyFolders, FolderEntry, FolderListing, LookAgain, PassedOver, ReadFiles};
+use source_files::{
+    EmptyFolders, FolderEntry, FolderListing, LookAgain, PassedOver, ReadFiles, UnreadEntry,
+};
 use source_tree::read_source;
 use std::alloc::{AllocError, Global};
 use streams::Std;
@@ -121,13 +123,18 @@ fn listed(alloc: Global, root: &str) -> Result<Vec<FolderEntry>, AllocError> {
     Ok(entries)
 }
 
-/// The names in a root that aren't UTF-8.
-fn unnamed(alloc: Global, root: &str) -> Result<Vec<String>, AllocError> {
-    let mut names = Vec::new(alloc);
+/// The entries in a root whose names aren't UTF-8.
+fn unnamed(alloc: Global, root: &str) -> Result<Vec<UnreadEntry>, AllocError> {
+    let mut entries = Vec::new(alloc);
     if root == "gaps" {
-        names.push(String::from_str(alloc, "n\\xe9")?)?;
+        entries.push(UnreadEntry {
+            shown: String::from_str(alloc, "n\\xe9")?,
+            bytes: Vec::from_slice(alloc, b"n\xe9")?,
+            folder: None,
+            has_bad_path: false,
+        })?;
     }
-    Ok(names)
+    Ok(entries)
 }
 
 /// The folders in a root.

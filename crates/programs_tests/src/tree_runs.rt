@@ -249,7 +249,7 @@ protoscip: TooFewSources\n",
     Row {
         words: "index said out --accept all --options link",
         status: 1,
-        said: "protoscip: a.proto@27: Unresolved\n",
+        said: "protoscip: a.proto@27: Option\n",
         ..SILENT
     },
     Row {

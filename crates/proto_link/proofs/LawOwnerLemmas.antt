@@ -5,8 +5,9 @@ use Rattle.std.proofs.lemmas.Option.{slice_get_within}
 use Rattle.proto_lex.specs.declared.span.Span.{Span}
 use Rattle.proto_visibility.specs.declared.clash.Duplicates.TheVariants.{Refuse}
 use Rattle.proto_visibility.specs.Files.{File, HasFacts, IsPresent, IsSource}
-use Rattle.proto_visibility.specs.Sees.{IsReachable}
-use Rattle.proto_visibility.specs.Sees.IsReachable.{seen}
+use Rattle.proto_visibility.specs.Reaches.{IsReachable}
+use Rattle.proto_visibility.specs.Reaches.Reaches.{sees as reaches_seen}
+use Rattle.proto_visibility.specs.Reaches.IsReachable.{reached}
 use Rattle.proto_visibility.specs.Clashes.{Item, IsItem, NoClash}
 use Rattle.proto_visibility.specs.Clashes.IsItemBy.{declared}
 use Rattle.proto_visibility.specs.Knows.{NameKind, Knows, KnowsAs, DeclaresName, SeesGiving}
@@ -49,7 +50,7 @@ module _ (files : List File) (clear : NoClash Refuse files) (source : ℕ) (is :
   seen_at name number gives present = by gives.giving.gives.gives.gives gives.giving.gives.gives.admitted
     where
       counts : IsReachable files number
-      counts = seen is gives.sees present
+      counts = reached is (reaches_seen gives.sees) present
 
       has : HasFacts files number gives.giving.gives.facts
       has = record {

@@ -11,6 +11,8 @@ pub mod LawOwnerLemmas
 pub mod LookupLemmas
 -- What a use names if files without facts are mended
 pub mod MendedLemmas
+-- A use names in a part of files what it names in the whole
+pub mod PartLemmas
 -- From lookups to what a use names
 pub mod ResolveLemmas
 -- What the last components of a name that a use resolves to name

@@ -109,6 +109,7 @@ module _ (files : List File) (number : ℕ) (unread : HasNoFacts files number) (
     facts = Some facts;
     is_included = unread.file.is_included;
     is_left_out = unread.file.is_left_out;
+    links_options = unread.file.links_options;
   }
 
   abbrev with_facts : List File

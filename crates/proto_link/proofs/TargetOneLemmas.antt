@@ -19,8 +19,9 @@ use Rattle.proto_visibility.specs.declared.lookup.Entity.{Entity}
 use Rattle.proto_visibility.specs.declared.lookup.Entity.TheVariants.{Declared}
 use Rattle.proto_link.specs.declared.target.Target.{Target}
 use Rattle.proto_visibility.specs.Files.{File, HasFacts, HaveOrigins, IsSource}
-use Rattle.proto_visibility.specs.Sees.{IsReachable}
-use Rattle.proto_visibility.specs.Sees.IsReachable.{seen as counts_seen}
+use Rattle.proto_visibility.specs.Reaches.{IsReachable}
+use Rattle.proto_visibility.specs.Reaches.Reaches.{sees as reaches_seen}
+use Rattle.proto_visibility.specs.Reaches.IsReachable.{reached as counts_seen}
 use Rattle.proto_visibility.specs.Clashes.{Before, BeforeBy, Item, IsItem, IsItemBy, IsOwnItem}
 use Rattle.proto_visibility.specs.Clashes.{Clash, ClashBy, NoClash}
 use Rattle.proto_visibility.specs.Absences.{IsNeeded, Absent}
@@ -92,7 +93,8 @@ module _ (files : List File) (origins : HaveOrigins files)
   -- the file that declares what a use of a source names is reachable
   owner_reachable : (source : ℕ) → IsSource files source → (type_use : Use) (name : List ℕ) (owner : ℕ)
       → Names files source type_use name owner → IsReachable files owner
-  owner_reachable source is type_use name owner names = counts_seen is names.owned.gives.sees names.owned.present
+  owner_reachable source is type_use name owner names =
+      counts_seen is (reaches_seen names.owned.gives.sees) names.owned.present
 
   pub one_target : (duplicates : Duplicates) → NoClash duplicates files → (source : ℕ) → IsSource files source
       → (type_use : Use) (a b : Target) → IsTarget files source type_use a → IsTarget files source type_use b → a ≡ b

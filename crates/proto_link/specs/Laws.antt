@@ -13,7 +13,7 @@ use Rattle.proto_visibility.specs.declared.fault.LinkFault.TheVariants.{Memory}
 use Rattle.proto_visibility.specs.declared.lookup.Entity.{Entity}
 use Rattle.proto_link.specs.declared.target.Target.{Target}
 use Rattle.proto_visibility.specs.Files.{File, HasFacts, HaveOrigins, IsPresent, IsSource}
-use Rattle.proto_visibility.specs.Sees.{IsReachable}
+use Rattle.proto_visibility.specs.Reaches.{IsReachable}
 use Rattle.proto_visibility.specs.Clashes.{Clash, NoClash, ShareNames}
 use Rattle.proto_visibility.specs.Knows.{IsEntityOf}
 use Rattle.proto_visibility.specs.Absences.{Absent, Broken}

@@ -7,6 +7,8 @@ pub mod Mended
 pub mod Uncertain
 -- and that no other ones may
 pub mod Certain
+-- what it names in a part of files
+pub mod Parts
 -- the laws
 pub mod Laws
 -- what no public contract names

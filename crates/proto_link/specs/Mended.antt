@@ -20,8 +20,13 @@ pub data IsAroundOrSame : (scope outer : List ℕ) → Type 0 where
 -- The file is the same, or it had no facts and has some.
 pub data IsMended (file : File) : File → Type 0 where
   unchanged : IsMended file file
-  read : (facts : Facts) → file.facts ≡ None → IsMended file
-      (record { path = file.path; facts = Some facts; is_included = file.is_included; is_left_out = file.is_left_out })
+  read : (facts : Facts) → file.facts ≡ None → IsMended file (record {
+    path = file.path;
+    facts = Some facts;
+    is_included = file.is_included;
+    is_left_out = file.is_left_out;
+    links_options = file.links_options;
+  })
 
 pub record AreMended (files mended : List File) : Type 0 where
   pub one_each : length mended ≡ length files

@@ -15,6 +15,7 @@ ghost use Rattle.proto_link.specs.Laws.{
   OneOmissionList,
 };
 ghost use Rattle.proto_link.specs.Mended.{MendedResolvesAlike};
+ghost use Rattle.proto_link.specs.Parts.{PartsResolveAlike};
 ghost use Rattle.proto_link.specs.Certain.{CertainResolvesAlike, UncertainMayChange};
 
 use proto_decl::{facts_are_filled, facts_in_order, prefixes_are_entities, scopes_are_known};
@@ -96,3 +97,8 @@ pub fn uncertain_may_change()
 {
     scopes_are_known();
 }
+
+/// A use of a file names in a part of files what it names in the whole, if all that the file sees is of the part.
+pub fn parts_resolve_alike()
+    ensures { PartsResolveAlike }
+{}

@@ -21,13 +21,13 @@ mod laws;
 pub use laws::{
     certain_resolves_alike, each_name_has_an_owner, mended_resolves_alike, no_use_is_ambiguous,
     one_broken_file, one_declaration_a_name, one_name_a_use, one_omission_list, one_refusal,
-    one_target_a_use, uncertain_may_change,
+    one_target_a_use, parts_resolve_alike, uncertain_may_change,
 };
 pub use linker::Linker;
 pub use proto_visibility::{
     CheckedFiles, Duplicates, Entity, FileOmission, FilePlace, LinkFault, LinkFile, ListedNames,
-    Role, have_own_paths, kept_files_are_clear, left_out, nothing_is_left_out_of_good_files,
-    one_kept,
+    OptionsIn, Role, have_own_paths, kept_files_are_clear, left_out,
+    nothing_is_left_out_of_good_files, one_kept,
 };
 pub use target::Target;
 pub use uncertain_use::UncertainUse;

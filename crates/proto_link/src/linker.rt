@@ -8,7 +8,8 @@ ghost use Rattle.proto_visibility.specs.Files.{IsIncludedAt, IsSourceAt};
 ghost use Rattle.std.specs.Prelude.{Contains};
 ghost use Rattle.std.specs.List.Sorted.{IsStrictlyIncreasing};
 ghost use Rattle.proto_visibility.specs.Knows.{KnowsAs, admits};
-ghost use Rattle.proto_visibility.specs.Sees.{IsReachable, Sees};
+ghost use Rattle.proto_visibility.specs.Sees.{Sees};
+ghost use Rattle.proto_visibility.specs.Reaches.{IsOptionsIn, IsReachable, LinksOptions};
 ghost use Rattle.proto_visibility.specs.Absences.{AreMissing};
 ghost use Rattle.proto_visibility.specs.Linked.{HaveClearNames, CanBeLinked, MayRefuse};
 ghost use Rattle.proto_visibility.specs.declared.fault.LinkFault.{LinkFault};
@@ -23,12 +24,13 @@ use crate::uncertain_use::UncertainUse;
 use crate::use_faults::use_faults_of;
 use proto_decl::{FileFacts, Use};
 use proto_visibility::{
-    CheckedFiles, Duplicates, FilePlace, LinkFault, LinkFile, ListedNames, Namespace, Role,
+    CheckedFiles, Duplicates, FilePlace, LinkFault, LinkFile, ListedNames, Namespace, OptionsIn,
+    Role,
 };
 use std::alloc::{AllocError, Global};
 use std::marker::Model;
 
-/// Files in which no full name is declared twice: all sources, and the included files that they see,
+/// Files in which no full name is declared twice: all sources, and the included files that they reach,
 /// are one namespace; or each of them is one, if several may give one name.
 ///
 /// Contracts see the list of the files.
@@ -49,18 +51,18 @@ impl<'a, 't> Model for Linker<'a, 't> {
 impl<'a, 't> Linker<'a, 't> {
     /// Links files, no two of which have one path, by their numbers in the list.
     ///
-    /// An included file has an effect only where some source sees it. A weak import counts as a
+    /// An included file has an effect only where some source reaches it. A weak import counts as a
     /// plain one.
     ///
     /// Refusals, of which the first that holds is answered; but `Memory` may come before any:
     ///
     /// - `Broken`: the least number of a file without facts, among the sources and the included files that some source
-    ///   sees.
+    ///   reaches.
     /// - `Duplicate`: two places in these files, of declarations or of a declaration and a component of a package
     ///   statement, that give one full name; both in one file, if several files may give it. Of such pairs it is that
     ///   with the least second place, and then the least first; places are ordered by file number, then start.
     /// - `MissingImport`: the first import of a path that no file has. Any import of a source counts, and the public
-    ///   ones of an included file that some source sees.
+    ///   ones of an included file that some source reaches.
     /// - `Memory`: memory was refused.
     pub fn new(
         alloc: Global,
@@ -90,7 +92,7 @@ impl<'a, 't> Linker<'a, 't> {
     /// Links the files that are kept of a tree with faults, by their numbers in the list: an import may
     /// name none of them.
     ///
-    /// No two may have one path. The sources, and the included files that some source sees, have to have facts, and no
+    /// No two may have one path. The sources, and the included files that some source reaches, have to have facts, and no
     /// two places in them may clash as `Duplicate` says. An error means that memory was refused.
     pub fn of_kept(
         alloc: Global,
@@ -113,14 +115,14 @@ impl<'a, 't> Linker<'a, 't> {
     }
 
     /// The places of the imports that have to be there and name no file, in order: those of sources, and the public
-    /// ones of included files that some source sees. An error means that memory was refused.
+    /// ones of included files that some source reaches. An error means that memory was refused.
     pub fn missing_imports(&self, alloc: Global) -> Result<Vec<FilePlace>, AllocError>
         ensures { IfOk result (λ places. AreMissing self.now places.items) }
     {
         self.namespace.missing_imports(alloc)
     }
 
-    /// The numbers of the sources, and of the included files that some source sees, rising. An error means that memory
+    /// The numbers of the sources, and of the included files that some source reaches, rising. An error means that memory
     /// was refused.
     pub fn reachable_files(&self, alloc: Global) -> Result<Vec<usize>, AllocError>
         ensures reachable { IfOk result (λ numbers. (number : ℕ) → Contains numbers.items number
@@ -138,6 +140,15 @@ impl<'a, 't> Linker<'a, 't> {
         ensures { IsTrue result ↔ Sees self.now file other }
     {
         self.namespace.visible(file, other)
+    }
+
+    /// In which file a source has the messages of its options: one that its imports lead to, or the file that protoc comes
+    /// with. Names in its options have to be linked. Takes no memory.
+    pub fn options_in(&self, source: usize) -> OptionsIn
+        requires { LinksOptions self.now source }
+        ensures { IsOptionsIn self.now source result }
+    {
+        self.namespace.options_in(source)
     }
 
     /// Whether a file knows a name in a role: of the files that it sees one declares such a thing by this full name, or

@@ -21,6 +21,7 @@ fn same<'a, 't>(file: &LinkFile<'a, 't>) -> LinkFile<'a, 't>
         facts: file.facts,
         included: file.included,
         left_out: file.left_out,
+        links_options: file.links_options,
     }
 }
 
@@ -33,6 +34,7 @@ fn as_left_out<'a, 't>(file: &LinkFile<'a, 't>) -> LinkFile<'a, 't>
         facts: file.facts,
         included: file.included,
         left_out: true,
+        links_options: file.links_options,
     }
 }
 

@@ -36,6 +36,8 @@ mod nul;
 #[cfg(test)]
 mod prefixes;
 #[cfg(test)]
+mod reached;
+#[cfg(test)]
 mod rows;
 #[cfg(test)]
 mod scans;

@@ -13,7 +13,7 @@ use std::process::Abort;
 use test_kit::{FileText, Made, file_text};
 
 /// The files of a tree.
-fn sources_of<'a>(alloc: Global, tree: &'a str) -> Made<Vec<FileText<'a>>> {
+pub(crate) fn sources_of<'a>(alloc: Global, tree: &'a str) -> Made<Vec<FileText<'a>>> {
     let mut sources = Vec::new(alloc);
     for file in tree.split_terminator('|') {
         sources.push(file_text(file))?;
@@ -34,7 +34,7 @@ fn add_facts<'t>(
 }
 
 /// Adds the facts of each source.
-fn add_all_facts<'t>(
+pub(crate) fn add_all_facts<'t>(
     alloc: Global,
     all: &mut Vec<Option<FileFacts<'t>>>,
     sources: &[FileText<'t>],
@@ -56,11 +56,12 @@ fn facts_at<'a, 't>(
     }
 }
 
-/// The files that are linked.
-fn files_of<'a, 't>(
+/// The files that are linked, and whether names in their options are.
+pub(crate) fn files_of<'a, 't>(
     alloc: Global,
     sources: &'a [FileText<'a>],
     facts: &'a [Option<FileFacts<'t>>],
+    links_options: bool,
 ) -> Made<Vec<LinkFile<'a, 't>>> {
     let mut files = Vec::with_capacity(alloc, sources.len())?;
     for (number, source) in sources.iter().enumerate() {
@@ -69,6 +70,7 @@ fn files_of<'a, 't>(
             facts: facts_at(facts, number),
             included: source.is_included,
             left_out: source.is_left_out,
+            links_options,
         })?;
     }
     Ok(files)
@@ -153,7 +155,7 @@ fn is_answered_with(
     facts: &[Option<FileFacts>],
     due: Due<'_>,
 ) -> Made<bool> {
-    let files = files_of(alloc, sources, facts)?;
+    let files = files_of(alloc, sources, facts, false)?;
     are_files_answered(alloc, files.as_slice(), due)
 }
 

@@ -24,7 +24,7 @@ use Rattle.proto_grammar.specs.Syntax.{extends}
 use Rattle.proto_grammar.specs.Grammar.Repetition.{One, Until}
 use Rattle.proto_grammar.specs.Grammar.Repetition.One.{one}
 use Rattle.proto_grammar.specs.Grammar.Repetition.Until.{done, more}
-use Rattle.proto_grammar.proofs.RepetitionStepLemmas.{same_ok, bind_ok, read_as}
+use Rattle.proto_grammar.proofs.RepetitionStepLemmas.{same_ok, read_as}
 use Rattle.proto_grammar.proofs.RepetitionUntilLemmas.{until_at-step}
 use Rattle.proto_grammar.proofs.TerminalTokenLemmas.{one_next}
 use Rattle.proto_parse.specs.Grammar.Files.{IsSyntax, IsImport, IsPackage, IsStatement, IsFileWithin, SpellsJoined}
@@ -49,7 +49,6 @@ use Rattle.proto_options.specs.Elements.{Placed, of_message, of_enum, of_service
 use Rattle.proto_options.specs.Elements.{of_statements, settings_of}
 use Rattle.proto_options.specs.Laws.{EachFileHasOptions, OneListOfOptions}
 use Rattle.proto_options.specs.Options.{IsOptionAt, AreOptionsOf}
-use Rattle.proto_options.specs.Reading.Settings.{setting_at}
 use Rattle.proto_options.specs.Reading.Statements.{statement_of, file_statement_of}
 use Rattle.proto_options.specs.Reading.Walk.{passed_at, statement_by, statement_at, item_at, inside_at, file_items_at}
 use Rattle.proto_options.specs.Reading.Walk.{file_at}
@@ -58,12 +57,11 @@ use Rattle.proto_options.proofs.WalkFallLemmas.{items_fall, inside_leaves}
 use Rattle.proto_options.proofs.FrontLemmas.{begins_one, begins_then, clear_then, kind_clear, name_clear}
 use Rattle.proto_options.proofs.FrontLemmas.{literals_clear}
 use Rattle.proto_options.proofs.FrontLemmas.{joined_clear, import_kind_clear}
-use Rattle.proto_options.proofs.KeptLemmas.{Kept, Walks, carried, kept_one, kept_all, walks_then}
+use Rattle.proto_options.proofs.KeptLemmas.{Walks, carried, kept_all, walks_then}
 use Rattle.proto_options.proofs.WalkLemmas.{word_parts, other_begins, semicolon_walks, option_item_walks}
 use Rattle.proto_options.proofs.WalkLemmas.{other_item_walks, passed_walks, enum_walks}
 use Rattle.proto_options.proofs.WalkMessageLemmas.{statement_walks, extend_walks, message_walks, inside_walks}
 use Rattle.proto_options.proofs.WalkMessageLemmas.{service_walks}
-use Rattle.proto_options.proofs.Found.Settings.{setting_found}
 use Rattle.proto_options.proofs.Exact.Settings.{setting_exact}
 
 file_word : (word : List ℕ) (a : List Lexeme) → first_is (is_word word) a ≡ true
@@ -203,34 +201,7 @@ module _ (end levels : ℕ) (scope : List ℕ) where
 
 -- ---- options at places
 
-carried_ok : (o : Kept) (after : Place) (x : List FileOption × Place) → carried o after ≡ Ok x → o ≡ Ok x.0
-carried_ok (Ok all) after x e = ap (λ (y : List FileOption × Place). read_as y.0) (same_ok _ x e)
-carried_ok (Err fault) after x e = cc
-
 module _ (end : ℕ) where
-  kept_found : (places : List Placed) (options all : List FileOption) → kept_all end places options ≡ Ok all
-      → (found : List FileOption) × ((all ≡ options ++ found) × AllZip IsOptionAt places found)
-  kept_found [] options all e = ([], (sym (append-nil options ∙ same_ok options all e), tt))
-  kept_found (p ∷ places) options all e =
-      let k = bind_ok (kept_one end p options) _ all e in
-      let s = bind_ok (setting_at (place_of end p.tokens)) _ k.0 k.1 in
-      let this : FileOption = record { scope = p.scope; element = p.element; setting = s.0.0 } in
-      let is : IsOptionAt p this = record {
-        scope = refl;
-        element = refl;
-        behind = s.0.1.left;
-        named = setting_found _ _ s.1;
-      } in
-      let rest = kept_found places k.0 all k.2 in
-      let before : options ++ this ∷ [] ≡ k.0 = same_ok _ k.0 s.2 in (
-        this ∷ rest.0,
-        (
-          rest.1.0 ∙ ap (λ (front : List FileOption). front ++ rest.0) (sym before)
-              ∙ append_assoc options (this ∷ []) rest.0,
-          (is, rest.1.1),
-        ),
-      )
-
   kept_exact : (places : List Placed) (options found : List FileOption) → AllZip IsOptionAt places found
       → kept_all end places options ≡ Ok (options ++ found)
   kept_exact [] options [] each = ap read_as (sym (append-nil options))
@@ -242,21 +213,23 @@ module _ (end : ℕ) where
       (kept_exact places (options ++ this ∷ []) found each.1
       ∙ ap read_as (append_assoc options (this ∷ []) found))
 
-  pub options_found : (levels : ℕ) (scope : List ℕ) {a : List Lexeme} {x : FileTree} (d : IsFileWithin levels All a x)
-      (options : List FileOption) (rest : Place) → file_at levels scope (place_of end a) ≡ Ok (options, rest)
-      → AllZip IsOptionAt (settings_of scope d) options
-  options_found levels scope d options rest e =
-      let w = file_walked end levels scope d in
-      let k = kept_found (settings_of scope d) [] options
-      (carried_ok (kept_all end (settings_of scope d) []) w.0 (options, rest) (sym w.1 ∙ e)) in
-      subst (λ (all : List FileOption). AllZip IsOptionAt (settings_of scope d) all) (sym k.1.0) k.1.1
-
   pub options_exact : (levels : ℕ) (scope : List ℕ) {a : List Lexeme} {x : FileTree} (d : IsFileWithin levels All a x)
       (options : List FileOption) → AllZip IsOptionAt (settings_of scope d) options
       → (rest : Place) × (file_at levels scope (place_of end a) ≡ Ok (options, rest))
   options_exact levels scope d options each =
       let w = file_walked end levels scope d in
       (w.0, w.1 ∙ rw (kept_exact (settings_of scope d) [] options each) refl)
+
+  pub options_found : (levels : ℕ) (scope : List ℕ) {a : List Lexeme} {x : FileTree} (d : IsFileWithin levels All a x)
+      (options : List FileOption) (rest : Place) → file_at levels scope (place_of end a) ≡ Ok (options, rest)
+      → AllZip IsOptionAt (settings_of scope d) options
+  options_found levels scope d options rest e =
+      let its = file_listed scope d in
+      let read = options_exact levels scope d its.options its.each in
+      let same : its.options ≡ options =
+      ap (λ (y : List FileOption × Place). y.0)
+      (same_ok (its.options, read.0) (options, rest) (sym read.1 ∙ e)) in
+      subst (λ (all : List FileOption). AllZip IsOptionAt (settings_of scope d) all) same its.each
 
 -- ---- what the second reading gives
 

@@ -1,6 +1,5 @@
 -- What is kept of options, by where they are: that of a list of places, one after the other.
-use Rattle.std.proofs.Common.{◌≡◌, ℕ, Bool, Result, Ok, Err, Option, List, [], ◌∷◌, ◌++◌, refl, sym, ◌∙◌}
-use Rattle.std.proofs.Common.{ap}
+use Rattle.std.proofs.Common.{◌≡◌, ℕ, Bool, Result, Ok, Err, Option, List, [], ◌∷◌, ◌++◌, refl}
 use Rattle.proto_lex.specs.declared.token.TokenKind.TheVariants.{Comma}
 use Rattle.proto_grammar.specs.declared.dialect.CustomOptions.{CustomOptions}
 use Rattle.proto_grammar.specs.declared.fault.SyntaxFault.{SyntaxFault}
@@ -15,11 +14,9 @@ use Rattle.proto_grammar.specs.Grammar.Options.IsOption.{option}
 use Rattle.proto_grammar.specs.Grammar.Options.IsOptions.{none as no_options, some as some_options}
 use Rattle.proto_grammar.specs.Grammar.Options.IsCommaSetting.{comma_setting}
 use Rattle.proto_grammar.specs.Reading.Repetition.{◌>>=◌, and_then, until_at}
-use Rattle.proto_grammar.proofs.RepetitionStepLemmas.{same_ok}
 use Rattle.proto_grammar.proofs.RepetitionUntilLemmas.{Falls, until_at-step}
 use Rattle.proto_grammar.proofs.TerminalTokenLemmas.{token_exact, one_next}
 use Rattle.proto_options.specs.declared.elements.Element.{Element}
-use Rattle.proto_options.specs.declared.names.Setting.{Setting}
 use Rattle.proto_options.specs.declared.options.FileOption.{FileOption}
 use Rattle.proto_options.specs.Elements.{Placed, placed, of_option, of_options, of_commas, of_items}
 use Rattle.proto_options.specs.Reading.Settings.{setting_at}
@@ -27,9 +24,8 @@ use Rattle.proto_options.specs.Reading.Options.{Keeping, option_of, kept_at, opt
 use Rattle.proto_options.specs.Reading.Options.{comma_options_at}
 use Rattle.proto_options.specs.Reading.Options.{bracketed_at, brackets_at}
 use Rattle.proto_options.proofs.WalkFallLemmas.{comma_options_fall}
-use Rattle.proto_options.proofs.Found.Settings.{setting_found}
 use Rattle.proto_options.proofs.Exact.Settings.{setting_exact}
-use Rattle.proto_options.proofs.EndLemmas.{setting_ends}
+use Rattle.proto_options.proofs.NamedLemmas.{setting_named}
 
 abbrev pub Kept : Type 0
 Kept = Result (List FileOption) SyntaxFault
@@ -96,26 +92,12 @@ module _ (end : ℕ) where
 
   -- ---- an option
 
-  kept_by : (scope : List ℕ) (element : Element) {custom : CustomOptions} {b c : List Lexeme} → IsSetting custom b c
-      → (options : List FileOption) (o : Result (Setting × Place) SyntaxFault) → setting_at (place_of end b) ≡ o
-      → (o >>= λ found. Ok (options ++ option_of scope element found.0 ∷ [], found.1))
-      ≡ carried ((o >>= λ found. Ok (options ++ option_of scope element found.0 ∷ [])) >>= λ all. Ok all)
-      (place_of end c)
-  kept_by scope element is options (Err fault) e = refl
-  kept_by scope element {b = b} {c = c} is options (Ok x) e =
-      let named = setting_found (place_of end b) x e in
-      let left : x.1.left ≡ c = setting_ends named is in
-      let rest : x.1 ≡ place_of end x.1.left =
-      ap (λ (y : Setting × Place). y.1) (same_ok x (x.0, place_of end x.1.left) (sym e ∙ setting_exact end named)) in
-      let behind : x.1 ≡ place_of end c = rest ∙ ap (place_of end) left in
-      ap (λ (y : Place). Ok (options ++ option_of scope element x.0 ∷ [], y)) behind
-
   kept_walks : (scope : List ℕ) (element : Element) {custom : CustomOptions} {b c : List Lexeme} → IsSetting custom b c
       → (options : List FileOption)
       → kept_at scope element options (place_of end b)
       ≡ carried (kept_all (placed scope element b) options) (place_of end c)
   unfolding kept_at
-  kept_walks scope element {b = b} is options = kept_by scope element is options (setting_at (place_of end b)) refl
+  kept_walks scope element is options = rw (setting_exact end (setting_named is).1) refl
 
   pub option_walks : (scope : List ℕ) (element : Element) {custom : CustomOptions} {a b : List Lexeme}
       (o : IsOption custom a b) (options : List FileOption)

@@ -1,32 +1,37 @@
 -- What isn't read where no level is left, and what is inside is read a level down.
-use Rattle.std.proofs.Common.{◌≡◌, ℕ, zero, suc, ◌-◌, ◌<◌, Option, Ok, Err, List, refl, sym, ap, arith}
-use Rattle.proto_lex.specs.declared.token.TokenKind.{TokenKind}
+use Rattle.std.proofs.Common.{◌≡◌, ℕ, zero, suc, ◌-◌, ◌<◌, cond, Option, Ok, Err, List, refl, sym, ap, arith}
+use Rattle.proto_lex.specs.declared.token.TokenKind.TheVariants.{OpenBrace, CloseBrace, Less, Greater}
 use Rattle.proto_grammar.specs.declared.fault.SyntaxFault.TheVariants.{TooDeep}
-use Rattle.proto_grammar.specs.Lexeme.{Place}
-use Rattle.proto_grammar.specs.Terminal.{of_kind, offset_at}
+use Rattle.proto_grammar.specs.Lexeme.{Place, place_of}
+use Rattle.proto_grammar.specs.Terminal.{first_is, of_kind, offset_at, behind}
 use Rattle.proto_grammar.specs.Reading.Repetition.{◌>>=◌, token_that}
 use Rattle.proto_decl.specs.Names.{qualified}
 use Rattle.proto_options.specs.declared.options.FileOption.{FileOption}
 use Rattle.proto_options.specs.declared.statements.Within.TheVariants as within
 use Rattle.proto_options.specs.Names.{Names}
-use Rattle.proto_options.specs.Reading.Aggregates.{fields_at, within_at}
+use Rattle.proto_options.specs.Grammar.Passed.{past_one}
+use Rattle.proto_options.specs.Reading.Aggregates.{body_at, message_at}
 use Rattle.proto_options.specs.Reading.Walk.{message_body_at, block_at, inside_at}
 
-pub no_level : (levels : ℕ) (closing : TokenKind) (around : Option ℕ) (names : Names) (tokens : Place) → levels ≡ 0
-    → within_at levels closing around names tokens ≡ Err (TooDeep (offset_at tokens))
-unfolding within_at
-no_level levels closing around names tokens e = rw e refl
+pub no_level : (levels : ℕ) (around : Option ℕ) (names : Names) (tokens : Place) → levels ≡ 0
+    → message_at levels around names tokens ≡ Ok (names, place_of tokens.end (past_one tokens.left))
+unfolding message_at
+no_level levels around names tokens e = rw e refl
 
-pub some_level : (levels : ℕ) (closing : TokenKind) (around : Option ℕ) (names : Names) (tokens : Place) → 0 < levels
-    → within_at levels closing around names tokens
-    ≡ (fields_at (within_at (levels - 1)) closing around names tokens >>= λ fields.
-    token_that (of_kind closing) fields.1 >>= λ closes. Ok (fields.0, closes.1))
-unfolding within_at
-some_level zero closing around names tokens some = absurd (omega arith)
-some_level (suc levels) closing around names tokens some =
+pub some_level : (levels : ℕ) (around : Option ℕ) (names : Names) (tokens : Place) → 0 < levels
+    → message_at levels around names tokens
+    ≡ cond (first_is (of_kind Less) tokens.left)
+    (body_at (message_at (levels - 1)) Greater around names (behind tokens))
+    (token_that (of_kind OpenBrace) tokens
+    >>= λ open_brace. body_at (message_at (levels - 1)) CloseBrace around names open_brace.1)
+unfolding message_at
+some_level zero around names tokens some = absurd (omega arith)
+some_level (suc levels) around names tokens some =
     let one : suc levels - 1 ≡ levels = omega arith in
-    ap (λ n. fields_at (within_at n) closing around names tokens >>= λ fields.
-    token_that (of_kind closing) fields.1 >>= λ closes. Ok (fields.0, closes.1)) (sym one)
+    ap (λ n. cond (first_is (of_kind Less) tokens.left)
+    (body_at (message_at n) Greater around names (behind tokens))
+    (token_that (of_kind OpenBrace) tokens
+    >>= λ open_brace. body_at (message_at n) CloseBrace around names open_brace.1)) (sym one)
 
 -- a message where no level is left, and where one is
 pub no_message : (levels : ℕ) (around name : List ℕ) (options : List FileOption) (tokens : Place) → levels ≡ 0

@@ -6,23 +6,24 @@ pub mod FallLemmas
 pub mod TokenLemmas
 -- The tokens from a place on, by the index of the next one
 pub mod CursorLemmas
--- What is taken as the grammar has it, and braces that are read past
+-- What is taken as the grammar has it
 pub mod PassingLemmas
-pub mod ClosedLemmas
--- An option is read with the names in its value, or with its braces read past
-pub mod SettingLemmas
+-- What is read past in messages in values
+pub mod OddLemmas
+-- A field's name with something of a value behind it
+pub mod BeginLemmas
+-- Each step of the loops over what is in messages takes a token
+pub mod MessageFallLemmas
 -- What braces may be inside what other braces: the walk over statements ends
 pub mod RankLemmas
 -- Each step of the loops over options and statements takes a token
 pub mod WalkFallLemmas
 -- What is in front of a token of a kind, token by token
 pub mod NameLemmas
--- What is read is in the grammar, and the other way round
-pub mod Found
+-- What is in the grammar is read
 pub mod Exact
--- Messages in values have their braces balanced, and options end where the grammar ends them
-pub mod BalanceLemmas
-pub mod EndLemmas
+-- Whatever is in balanced braces is a message, with names
+pub mod GivenLemmas
 -- What is in front of the token that tells where options are
 pub mod FrontLemmas
 -- What is kept of options, by where they are
@@ -35,6 +36,8 @@ pub mod NamedLemmas
 pub mod EachLemmas
 -- The options of a file are those of its derivation
 pub mod FileLemmas
+-- What messages say
+pub mod MessageLemmas
 -- Enums and services have no fields
 pub mod FieldLemmas
 -- Fields start one behind the other

@@ -1,10 +1,9 @@
 -- What is in the grammar as an option has names.
-use Rattle.std.proofs.Common.{◌≡◌, ℕ, Result, Ok, Err, Option, None, List, [], ◌∷◌, ◌++◌, length, refl, sym, ◌∙◌, subst}
+use Rattle.std.proofs.Common.{◌≡◌, ℕ, suc, Option, None, List, [], ◌∷◌, ◌++◌, length, refl, subst}
 use Rattle.proto_lex.specs.declared.span.Span.{Span}
-use Rattle.proto_lex.specs.declared.token.TokenKind.TheVariants.{OpenBrace, CloseBrace, Dot}
+use Rattle.proto_lex.specs.declared.token.TokenKind.TheVariants.{OpenBrace, Dot}
 use Rattle.proto_grammar.specs.declared.dialect.CustomOptions.{CustomOptions}
-use Rattle.proto_grammar.specs.declared.fault.SyntaxFault.{SyntaxFault}
-use Rattle.proto_grammar.specs.Lexeme.{Lexeme, Place, place_of}
+use Rattle.proto_grammar.specs.Lexeme.{Lexeme}
 use Rattle.proto_grammar.specs.Terminal.{of_kind, not_next}
 use Rattle.proto_grammar.specs.Grammar.Repetition.{One, Until, Passes}
 use Rattle.proto_grammar.specs.Grammar.Repetition.Until.{done, more}
@@ -16,22 +15,17 @@ use Rattle.proto_grammar.specs.Grammar.Options.IsOptionName.{option_name as pass
 use Rattle.proto_grammar.specs.Grammar.Options.IsConstant.{name as a_name, signed as a_signed, unsigned as a_number}
 use Rattle.proto_grammar.specs.Grammar.Options.IsConstant.{strings as some_strings, aggregate as passed_aggregate}
 use Rattle.proto_grammar.specs.Grammar.Options.IsSetting.{setting as passed_setting}
-use Rattle.proto_grammar.proofs.RepetitionStepLemmas.{read_as, stopped}
 use Rattle.proto_options.specs.declared.names.OptionRole.TheVariants.{Field, Extension, Value}
 use Rattle.proto_options.specs.declared.names.Setting.{Setting}
 use Rattle.proto_options.specs.Names.{Names, named, one_word, plain as plain_name, last_number}
-use Rattle.proto_options.specs.Grammar.Aggregates.{max_aggregate_depth}
+use Rattle.proto_options.specs.Grammar.Aggregates.{IsMessageWithin, max_aggregate_depth}
 use Rattle.proto_options.specs.Grammar.Settings.{NamesPart, NamesDotPart, NamesValue, NamesSetting}
 use Rattle.proto_options.specs.Grammar.Settings.NamesPart.{field, extension}
 use Rattle.proto_options.specs.Grammar.Settings.NamesDotPart.{dot_part}
 use Rattle.proto_options.specs.Grammar.Settings.NamesOption.{option_name}
-use Rattle.proto_options.specs.Grammar.Settings.NamesValue.{name, signed, unsigned, strings, aggregate, read_past}
+use Rattle.proto_options.specs.Grammar.Settings.NamesValue.{name, signed, unsigned, strings, aggregate}
 use Rattle.proto_options.specs.Grammar.Settings.NamesSetting.{setting}
-use Rattle.proto_options.specs.Reading.Aggregates.{within_at}
-use Rattle.proto_options.proofs.BalanceLemmas.{within_closed}
-use Rattle.proto_options.proofs.ClosedLemmas.{closed_ends}
-use Rattle.proto_options.proofs.Found.Aggregates.{within_found}
-use Rattle.proto_options.proofs.Exact.Aggregates.{within_exact}
+use Rattle.proto_options.proofs.GivenLemmas.{aggregate_given}
 
 part_named : {custom : CustomOptions} (around : Option ℕ) (names : Names) {a b : List Lexeme} → IsOptionPart custom a b
     → (after : Names) × NamesPart around names a after b
@@ -47,26 +41,19 @@ dot_parts_named names (more further (passes (passed_dot_part d p)) others) =
     let first = part_named (last_number names) names p in
     let rest = dot_parts_named first.0 others in (rest.0, more further (dot_part d first.1) rest.1)
 
--- what is read is no fault
-one_or_other : {A : Type 0} (x : A) (fault : SyntaxFault) → read_as x ≡ stopped fault → ⊥
-one_or_other x fault e = cc
+-- the levels of a value are some
+some_levels : suc 63 ≡ max_aggregate_depth
+some_levels = refl
 
--- braces are named by the message in them, or read past
-braces_named : (names : Names) {a b c : List Lexeme} {open_brace : Span} → One (of_kind OpenBrace) a open_brace b
-    → IsClosed 1 b c → (read : Result (Names × Place) SyntaxFault)
-    → within_at max_aggregate_depth CloseBrace (last_number names) names (place_of 0 b) ≡ read
-    → (after : Names) × NamesValue names a after c
-braces_named names {a = a} {b = b} {c = c} o past (Ok x) e =
-    let inside = within_found max_aggregate_depth CloseBrace (last_number names) names (place_of 0 b) x e in
-    let ends : x.1.left ≡ c = closed_ends (within_closed max_aggregate_depth _ _ _ _ _ inside) past in
-    (x.0, subst (λ (d : List Lexeme). NamesValue names a x.0 d) ends (aggregate o inside))
-braces_named names {b = b} {c = c} o past (Err fault) e = (
-  names,
-  read_past o past
-      (λ has.
-      one_or_other (has.0, place_of 0 has.1.0) fault
-      (sym (within_exact 0 max_aggregate_depth CloseBrace _ _ _ _ _ has.1.1) ∙ e)),
-)
+-- braces are named by the message in them
+braces_named : (names : Names) {a b c : List Lexeme} {span : Span} → One (of_kind OpenBrace) a span b
+    → IsClosed 1 b c → (after : Names) × NamesValue names a after c
+braces_named names {a = a} {c = c} o balanced =
+    let its = aggregate_given 63 (last_number names) names o balanced in (
+      its.0,
+      aggregate o balanced
+          (subst (λ (levels : ℕ). IsMessageWithin levels (last_number names) names a its.0 c) some_levels its.1),
+    )
 
 value_named : {custom : CustomOptions} (names : Names) {a b : List Lexeme} → IsConstant custom a b
     → (after : Names) × NamesValue names a after b
@@ -75,8 +62,7 @@ value_named names (a_name {components = components} n) =
 value_named names (a_signed s n) = (names, signed s n)
 value_named names (a_number n) = (names, unsigned n)
 value_named names (some_strings t) = (names, strings t)
-value_named names (passed_aggregate {b = b} o past) =
-    braces_named names o past (within_at max_aggregate_depth CloseBrace (last_number names) names (place_of 0 b)) refl
+value_named names (passed_aggregate o balanced) = braces_named names o balanced
 
 pub setting_named : {custom : CustomOptions} {a b : List Lexeme} → IsSetting custom a b
     → (x : Setting) × NamesSetting a x b

@@ -1,12 +1,10 @@
 -- What a step reads that the grammar reads past.
-use Rattle.std.proofs.Common.{◌≡◌, ℕ, true, cond, Ok, Some, [], ◌∷◌, refl}
-use Rattle.std.specs.Option.{option_map_or}
+use Rattle.std.proofs.Common.{◌≡◌, true, cond, Ok, Some, [], ◌∷◌, refl}
 use Rattle.proto_lex.specs.declared.token.TokenKind.TheVariants.{Identifier, Integer, Dot, Minus}
 use Rattle.proto_grammar.specs.Lexeme.{Place}
-use Rattle.proto_grammar.specs.Terminal.{first, first_is, of_kind, behind}
-use Rattle.proto_grammar.specs.Reading.Repetition.{◌>>=◌, token_that, misplaced}
+use Rattle.proto_grammar.specs.Terminal.{first_is, of_kind, behind}
+use Rattle.proto_grammar.specs.Reading.Repetition.{◌>>=◌, token_that}
 use Rattle.proto_grammar.specs.Reading.Names.{dot_name_at, dot_names_at, name_at}
-use Rattle.proto_grammar.specs.Reading.Options.{depth_behind, deeper_at}
 use Rattle.proto_grammar.specs.Reading.Reserved.{plain_integer_at, integer_at}
 
 pub dot_name_by : (place : Place)
@@ -28,9 +26,3 @@ pub integer_by : (place : Place)
     (token_that (of_kind Integer) place >>= λ number. Ok (tt, number.1))
 unfolding integer_at plain_integer_at
 integer_by place = refl
-
-pub deeper_by : (depth : ℕ) (place : Place)
-    → deeper_at depth place
-    ≡ option_map_or (λ t. Ok (depth_behind t depth, behind place)) (first place.left) (misplaced place)
-unfolding deeper_at
-deeper_by depth place = refl

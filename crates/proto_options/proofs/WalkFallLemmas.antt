@@ -1,19 +1,17 @@
 -- Each step of the loops over options and statements takes a token.
-use Rattle.std.proofs.Common.{◌≡◌, ◌<◌, ◌≤◌, ℕ, zero, suc, Bool, true, Result, Ok, Err, Option, Some, None, List, []}
-use Rattle.std.proofs.Common.{◌∷◌, length, refl, ◌∙◌, ap, arith, codes}
+use Rattle.std.proofs.Common.{◌≡◌, ◌<◌, ◌≤◌, ℕ, zero, suc, Bool, true, Ok, Option, Some, None, List, []}
+use Rattle.std.proofs.Common.{◌∷◌, length, refl, ap, arith, codes}
 use Rattle.std.specs.Option.{option_map_or}
 use Rattle.proto_lex.specs.declared.token.TokenKind.{TokenKind}
 use Rattle.proto_lex.specs.declared.token.TokenKind.TheVariants.{Identifier, StringLiteral, Semicolon, Equals, Dot}
 use Rattle.proto_lex.specs.declared.token.TokenKind.TheVariants.{Comma}
 use Rattle.proto_lex.specs.declared.token.TokenKind.TheVariants.{OpenBrace, CloseBrace, OpenBracket, CloseBracket}
 use Rattle.proto_lex.proofs.ReadingTestLemmas.{chosen}
-use Rattle.proto_grammar.specs.declared.fault.SyntaxFault.{SyntaxFault}
 use Rattle.proto_grammar.specs.Lexeme.{Lexeme, Place, place_of}
 use Rattle.proto_grammar.specs.Terminal.{first_is, of_kind, is_word, is_sign, is_number, is_numeral, not_next, behind}
 use Rattle.proto_grammar.specs.Terminal.{closes}
 use Rattle.proto_grammar.specs.Reading.Repetition.{token_that, until_at}
 use Rattle.proto_grammar.specs.Reading.Names.{name_at}
-use Rattle.proto_grammar.specs.Reading.Options.{closed_at}
 use Rattle.proto_grammar.specs.Reading.Reserved.{integer_at}
 use Rattle.proto_grammar.proofs.RepetitionStepLemmas.{same_ok, bind_ok}
 use Rattle.proto_grammar.proofs.RepetitionUntilLemmas.{Falls}
@@ -22,7 +20,6 @@ use Rattle.proto_grammar.proofs.GrammarShorterLemmas.{integer_shorter}
 use Rattle.proto_decl.specs.Names.{qualified}
 use Rattle.proto_options.specs.declared.elements.Element.{Element}
 use Rattle.proto_options.specs.declared.elements.Element.TheVariants.{ExtensionRange}
-use Rattle.proto_options.specs.declared.names.Setting.{Setting}
 use Rattle.proto_options.specs.declared.options.FileOption.{FileOption}
 use Rattle.proto_options.specs.declared.statements.Within.{Within}
 use Rattle.proto_options.specs.declared.statements.Within.TheVariants as within
@@ -32,8 +29,7 @@ use Rattle.proto_options.specs.Names.{Names, last_number}
 use Rattle.proto_options.specs.Grammar.Aggregates.{max_aggregate_depth}
 use Rattle.proto_options.specs.Reading.Aggregates.{strings_at}
 use Rattle.proto_options.specs.Reading.Settings.{part_at, dot_part_at, dot_parts_at, option_name_at, name_value_at}
-use Rattle.proto_options.specs.Reading.Settings.{signed_value_at, aggregate_at, value_at, named_setting_at}
-use Rattle.proto_options.specs.Reading.Settings.{braces_passed_at, passed_setting_at, otherwise, setting_at}
+use Rattle.proto_options.specs.Reading.Settings.{signed_value_at, aggregate_at, value_at, setting_at}
 use Rattle.proto_options.specs.Reading.Options.{Keeping, kept_at, option_at, comma_option_at, comma_options_at}
 use Rattle.proto_options.specs.Reading.Options.{bracketed_at, brackets_at}
 use Rattle.proto_options.specs.Reading.Statements.{one_token_at, last_before, is_either, names_from, name_before_at}
@@ -44,8 +40,8 @@ use Rattle.proto_options.specs.Reading.Walk.{passed_at, method_item_at, enum_sta
 use Rattle.proto_options.specs.Reading.Walk.{braces_at}
 use Rattle.proto_options.specs.Reading.Walk.{statement_by, statement_at, item_at, items_at, block_at, inside_at}
 use Rattle.proto_options.proofs.FallLemmas.{Takes, Leaves, token_takes, name_takes, until_leaves, part_takes}
-use Rattle.proto_options.proofs.ClosedLemmas.{closed_leaves, closed_found}
-use Rattle.proto_options.proofs.FallLemmas.{dot_parts_fall, others_leave, behind_takes, strings_takes, within_leaves}
+use Rattle.proto_options.proofs.FallLemmas.{dot_parts_fall, others_leave, behind_takes, strings_takes}
+use Rattle.proto_options.proofs.MessageFallLemmas.{message_takes}
 
 pub option_name_takes : Takes option_name_at
 unfolding option_name_at dot_parts_at
@@ -72,15 +68,12 @@ signed_value_takes tokens x e =
     let left : n.0.1.left ≡ x.1.left = ap (λ y. y.1.left) (same_ok _ x n.2) in
     rw (← left) (omega (arith, token_takes _ tokens s.0 s.1, token_takes _ s.0.1 n.0 n.1))
 
-aggregate_takes : (names : Names) → Takes (aggregate_at names)
+aggregate_takes : (names : Names) (tokens : Place) (x : Names × Place)
+    → first_is (of_kind OpenBrace) tokens.left ≡ true → aggregate_at names tokens ≡ Ok x
+    → length x.1.left < length tokens.left
 unfolding aggregate_at
-aggregate_takes names tokens x e =
-    let o = bind_ok (token_that (of_kind OpenBrace) tokens) _ x e in
-    omega (
-      arith,
-      token_takes _ tokens o.0 o.1,
-      within_leaves max_aggregate_depth CloseBrace (last_number names) names o.0.1 x o.2,
-    )
+aggregate_takes names tokens x is e =
+    message_takes max_aggregate_depth (last_number names) names tokens x (rw is refl) e
 
 pub value_takes : (names : Names) → Takes (value_at names)
 unfolding value_at
@@ -96,15 +89,15 @@ value_takes names tokens x e =
     let t = bind_ok (strings_at tokens) _ x read in
     let left : t.0.1.left ≡ x.1.left = ap (λ y. y.1.left) (same_ok _ x t.2) in
     rw (← left) (strings_takes tokens t.0 t.1))
-    (λ _ e. chosen (first_is (of_kind OpenBrace) tokens.left) {z = Ok x} e (λ _. aggregate_takes names tokens x)
+    (λ _ e. chosen (first_is (of_kind OpenBrace) tokens.left) {z = Ok x} e (λ is. aggregate_takes names tokens x is)
     (λ _ read.
     let t = bind_ok (token_that is_numeral tokens) _ x read in
     let left : t.0.1.left ≡ x.1.left = ap (λ y. y.1.left) (same_ok _ x t.2) in
     rw (← left) (token_takes _ tokens t.0 t.1)))))
 
-named_setting_takes : Takes named_setting_at
-unfolding named_setting_at
-named_setting_takes tokens x e =
+pub setting_takes : Takes setting_at
+unfolding setting_at
+setting_takes tokens x e =
     let n = bind_ok (option_name_at tokens) _ x e in
     let q = bind_ok (token_that (of_kind Equals) n.0.1) _ x n.2 in
     let v = bind_ok (value_at n.0.0 q.0.1) _ x q.2 in
@@ -116,32 +109,6 @@ named_setting_takes tokens x e =
       token_takes _ n.0.1 q.0 q.1,
       value_takes n.0.0 q.0.1 v.0 v.1,
     ))
-
-passed_setting_takes : Takes passed_setting_at
-unfolding passed_setting_at braces_passed_at closed_at
-passed_setting_takes tokens x e =
-    let n = bind_ok (option_name_at tokens) _ x e in
-    let q = bind_ok (token_that (of_kind Equals) n.0.1) _ x n.2 in
-    let s = bind_ok (braces_passed_at q.0.1) _ x q.2 in
-    let o = bind_ok (token_that (of_kind OpenBrace) q.0.1) _ s.0 s.1 in
-    let left : s.0.1.left ≡ x.1.left = ap (λ y. y.1.left) (same_ok _ x s.2) in
-    rw (← left)
-    (omega (
-      arith,
-      option_name_takes tokens n.0 n.1,
-      token_takes _ n.0.1 q.0 q.1,
-      token_takes _ q.0.1 o.0 o.1,
-      closed_leaves (closed_found 1 o.0.1.left o.0.1.end s.0 o.2),
-    ))
-
-pub setting_takes : Takes setting_at
-unfolding setting_at
-setting_takes tokens x e = by_named (named_setting_at tokens) refl e
-  where
-    by_named : (named : Result (Setting × Place) SyntaxFault) → named_setting_at tokens ≡ named
-        → otherwise named (passed_setting_at tokens) ≡ Ok x → length x.1.left < length tokens.left
-    by_named (Ok y) is e = named_setting_takes tokens x (is ∙ e)
-    by_named (Err fault) is e = passed_setting_takes tokens x e
 
 -- ---- options in statements and in brackets
 

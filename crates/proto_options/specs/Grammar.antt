@@ -1,2 +1,4 @@
+-- what is read past in messages
+pub mod Passed
 pub mod Aggregates
 pub mod Settings

@@ -6,6 +6,9 @@ pub mod Elements
 pub mod Options
 -- what fields are of
 pub mod Fields
+-- what messages say beside their fields, and what literals say
+pub mod Escapes
+pub mod Messages
 -- what the second reading does
 pub mod Reading
 -- the laws

@@ -1,84 +1,31 @@
 //! Messages in an option's value (Text Format Language Specification).
 //!
-//! Each function takes one part. It adds the names that are in it, or gives the fault that it meets. `around` is the
-//! number of the name that the part belongs to.
+//! Each function takes one part, and adds the names that are in it. `around` is the number of the name that the part
+//! belongs to. What is odd is read past: so the only fault that there can be is Memory.
 
 ghost use Rattle.std.specs.Prelude.{◌≡◌};
 ghost use Rattle.proto_grammar.specs.Gives.{Gives};
 ghost use Rattle.proto_grammar.specs.declared.dialect.CustomOptions.TheVariants.{Skip};
-ghost use Rattle.proto_grammar.specs.Terminal.{others, is_numeral};
+ghost use Rattle.proto_grammar.specs.Terminal.{is_numeral};
 ghost use Rattle.proto_grammar.specs.Reading.Repetition.{token_that};
-ghost use Rattle.proto_options.specs.Grammar.Aggregates.{is_unsigned};
-ghost use Rattle.proto_options.specs.Reading.Aggregates.{extension_end_at, packed_end_at, bracketed_at, field_name_at};
-ghost use Rattle.proto_options.specs.Reading.Aggregates.{literal_at, literals_at, strings_at};
-ghost use Rattle.proto_options.specs.Reading.Aggregates.{word_at, signed_at, scalar_at, is_message_next};
-ghost use Rattle.proto_options.specs.Reading.Aggregates.{separator_at, element_at, comma_element_at, comma_elements_at};
-ghost use Rattle.proto_options.specs.Reading.Aggregates.{elements_at, elements_closed_at, list_at, message_value_at};
-ghost use Rattle.proto_options.specs.Reading.Aggregates.{value_behind_at, field_value_at};
-ghost use Rattle.proto_options.specs.Reading.Aggregates.{text_field_at, within_at, fields_at};
+ghost use Rattle.proto_options.specs.declared.names.OptionRole.TheVariants.{Value};
+ghost use Rattle.proto_options.specs.Grammar.Aggregates.{list_is_over, is_over};
+ghost use Rattle.proto_options.specs.Reading.Aggregates.{literal_at, literals_at, strings_at, word_at, odd_at};
+ghost use Rattle.proto_options.specs.Reading.Aggregates.{element_at, elements_at, list_at, value_at, field_at, item_at};
+ghost use Rattle.proto_options.specs.Reading.Aggregates.{optional_at, items_at, body_at, message_at};
 
 use crate::cursor::Cursor;
-use crate::names::{OptionName, OptionRole, count, one_word, plain, push_name};
-use crate::passing::dotted_name;
+use crate::field_names::begin;
+use crate::names::{FieldName, OptionName, OptionRole, count, one_word, plain, push_name};
+use crate::odd::{is_message_next, is_whole_word, pass_odd, pass_one};
 use basics::Sequence;
 use proto_grammar::SyntaxFault;
 use proto_lex::{Span, TokenKind};
 use std::alloc::Global;
 
-/// How many braces may be inside one another in an option's value, `<` and `>` among them. A value with more is read
-/// past, and nothing in it is named.
+/// How many braces may be inside one another in an option's value, `<` and `>` among them. What is deeper is read past,
+/// and nothing in it is named.
 pub const MAX_AGGREGATE_DEPTH: usize = 64;
-
-/// What is behind the first name in brackets, of an extension.
-#[tactic(auto, unfolding(crate::specs::Reading::Aggregates::extension_end_at))]
-fn extension_end(
-    cursor: &mut Cursor<'_>,
-    around: Option<usize>,
-    components: Sequence<Span>,
-    names: &mut Sequence<OptionName>,
-) -> Result<(), SyntaxFault>
-    ensures { Gives Skip (λ x. names.new) cursor.new result
-        (extension_end_at around components names.old cursor.old) }
-{
-    cursor.token(TokenKind::CloseBracket)?;
-    push_name(names, OptionRole::Extension, around, plain(components))?;
-    Ok(())
-}
-
-/// What is behind a domain in brackets: `/` and a message's name.
-#[tactic(auto, unfolding(crate::specs::Reading::Aggregates::packed_end_at))]
-fn packed_end(
-    cursor: &mut Cursor<'_>,
-    alloc: Global,
-    around: Option<usize>,
-    names: &mut Sequence<OptionName>,
-) -> Result<(), SyntaxFault>
-    ensures { Gives Skip (λ x. names.new) cursor.new result (packed_end_at around names.old cursor.old) }
-{
-    cursor.token(TokenKind::Slash)?;
-    let components = dotted_name(cursor, alloc)?;
-    cursor.token(TokenKind::CloseBracket)?;
-    push_name(names, OptionRole::Message, around, plain(components))?;
-    Ok(())
-}
-
-/// The name of an extension or of a packed message, in brackets.
-#[tactic(auto, unfolding(crate::specs::Reading::Aggregates::bracketed_at))]
-fn bracketed(
-    cursor: &mut Cursor<'_>,
-    alloc: Global,
-    around: Option<usize>,
-    names: &mut Sequence<OptionName>,
-) -> Result<(), SyntaxFault>
-    ensures { Gives Skip (λ x. names.new) cursor.new result (bracketed_at around names.old cursor.old) }
-{
-    cursor.token(TokenKind::OpenBracket)?;
-    let components = dotted_name(cursor, alloc)?;
-    if cursor.is_at(TokenKind::Slash) {
-        return packed_end(cursor, alloc, around, names);
-    }
-    extension_end(cursor, around, components, names)
-}
 
 /// An identifier, as a name of this role.
 #[tactic(auto, unfolding(crate::specs::Reading::Aggregates::word_at))]
@@ -96,22 +43,6 @@ pub(crate) fn word(
     Ok(())
 }
 
-/// A field's name.
-#[tactic(auto, unfolding(crate::specs::Reading::Aggregates::field_name_at))]
-fn field_name(
-    cursor: &mut Cursor<'_>,
-    alloc: Global,
-    around: Option<usize>,
-    names: &mut Sequence<OptionName>,
-) -> Result<(), SyntaxFault>
-    ensures { Gives Skip (λ x. names.new) cursor.new result (field_name_at around names.old cursor.old) }
-{
-    if cursor.is_at(TokenKind::OpenBracket) {
-        return bracketed(cursor, alloc, around, names);
-    }
-    word(cursor, alloc, OptionRole::Field, around, names)
-}
-
 /// A number without a sign.
 #[tactic(auto, using(crate::proofs::TokenLemmas::token_by))]
 pub(crate) fn numeral(cursor: &mut Cursor<'_>) -> Result<Span, SyntaxFault>
@@ -122,21 +53,6 @@ pub(crate) fn numeral(cursor: &mut Cursor<'_>) -> Result<Span, SyntaxFault>
         Some(lexeme) if lexeme.kind == TokenKind::Integer || lexeme.kind == TokenKind::Float => {
             Ok(lexeme.span)
         }
-        _ => Err(SyntaxFault::Grammar(offset)),
-    }
-}
-
-/// A word or a number, behind a `-`.
-#[tactic(auto, using(crate::proofs::TokenLemmas::token_by))]
-fn unsigned(cursor: &mut Cursor<'_>) -> Result<Span, SyntaxFault>
-    ensures { Gives Skip (λ x. x) cursor.new result (token_that is_unsigned cursor.old) }
-{
-    let offset = cursor.offset();
-    match cursor.next() {
-        Some(lexeme)
-            if lexeme.kind == TokenKind::Identifier
-                || lexeme.kind == TokenKind::Integer
-                || lexeme.kind == TokenKind::Float => { Ok(lexeme.span) }
         _ => Err(SyntaxFault::Grammar(offset)),
     }
 }
@@ -169,170 +85,111 @@ pub(crate) fn strings(cursor: &mut Cursor<'_>) -> Result<(), SyntaxFault>
     literals(cursor)
 }
 
-/// A `-`, and what may be behind it.
-#[tactic(auto, unfolding(crate::specs::Reading::Aggregates::signed_at))]
-fn signed(cursor: &mut Cursor<'_>) -> Result<(), SyntaxFault>
-    ensures { Gives Skip (λ x. x) cursor.new result (signed_at cursor.old) }
+/// An odd thing. It names nothing.
+#[tactic(auto, unfolding(crate::specs::Reading::Aggregates::odd_at))]
+fn odd(cursor: &mut Cursor<'_>, names: &mut Sequence<OptionName>) -> Result<(), SyntaxFault>
+    ensures { Gives Skip (λ x. names.new) cursor.new result (odd_at names.old cursor.old) }
 {
-    cursor.token(TokenKind::Minus)?;
-    unsigned(cursor)?;
+    if cursor.is_at_end() {
+        return Err(SyntaxFault::Grammar(cursor.offset()));
+    }
+    pass_odd(cursor);
     Ok(())
 }
 
-/// A scalar value. A word without a `-` may name a value of an enum.
-#[tactic(auto, unfolding(crate::specs::Reading::Aggregates::scalar_at))]
-fn scalar(
-    cursor: &mut Cursor<'_>,
-    alloc: Global,
-    around: Option<usize>,
-    names: &mut Sequence<OptionName>,
-) -> Result<(), SyntaxFault>
-    ensures { Gives Skip (λ x. names.new) cursor.new result (scalar_at around names.old cursor.old) }
+/// A sign, if it is next.
+#[tactic(auto, unfolding(crate::specs::Reading::Aggregates::optional_at))]
+fn optional(cursor: &mut Cursor<'_>, sign: TokenKind) -> Result<(), SyntaxFault>
+    ensures { Gives Skip (λ x. x) cursor.new result (optional_at sign cursor.old) }
 {
-    if cursor.is_at(TokenKind::Identifier) {
-        return word(cursor, alloc, OptionRole::Value, around, names);
-    }
-    if cursor.is_at(TokenKind::StringLiteral) {
-        return strings(cursor);
-    }
-    if cursor.is_at(TokenKind::Minus) {
-        return signed(cursor);
-    }
-    numeral(cursor)?;
-    Ok(())
-}
-
-/// A `,` or `;`, if one is next.
-#[tactic(auto, unfolding(crate::specs::Reading::Aggregates::separator_at))]
-fn separator(cursor: &mut Cursor<'_>) -> Result<(), SyntaxFault>
-    ensures { Gives Skip (λ x. x) cursor.new result (separator_at cursor.old) }
-{
-    if cursor.is_at(TokenKind::Comma) || cursor.is_at(TokenKind::Semicolon) {
+    if cursor.is_at(sign) {
         cursor.advance();
     }
     Ok(())
 }
 
-/// A message, or else a scalar value.
+/// A word as a value: it may name a value of an enum.
+fn value_word(
+    cursor: &mut Cursor<'_>,
+    alloc: Global,
+    around: Option<usize>,
+    names: &mut Sequence<OptionName>,
+) -> Result<(), SyntaxFault>
+    ensures { Gives Skip (λ x. names.new) cursor.new result (word_at Value around names.old cursor.old) }
+{
+    word(cursor, alloc, OptionRole::Value, around, names)
+}
+
+/// An element of a list, or what is between two.
 #[cycle(aggregates)]
 #[tactic(auto, unfolding(crate::specs::Reading::Aggregates::element_at))]
 fn element(
     cursor: &mut Cursor<'_>,
     alloc: Global,
     levels: usize,
-    is_message: bool,
     around: Option<usize>,
     names: &mut Sequence<OptionName>,
 ) -> Result<(), SyntaxFault>
     ensures { Gives Skip (λ x. names.new) cursor.new result
-        (element_at (within_at levels) is_message around names.old cursor.old) }
+        (element_at (message_at levels) around names.old cursor.old) }
 {
-    if is_message {
-        return message_value(cursor, alloc, levels, around, names);
+    if is_message_next(cursor) {
+        return message(cursor, alloc, levels, around, names);
     }
-    scalar(cursor, alloc, around, names)
-}
-
-/// What is behind a list's first element, up to its `]`.
-#[cycle(aggregates)]
-fn comma_elements(
-    cursor: &mut Cursor<'_>,
-    alloc: Global,
-    levels: usize,
-    are_messages: bool,
-    around: Option<usize>,
-    names: &mut Sequence<OptionName>,
-) -> Result<(), SyntaxFault>
-    ensures { Gives Skip (λ x. names.new) cursor.new result
-        (comma_elements_at (within_at levels) are_messages around names.old cursor.old) }
-{
-    'elements: while cursor.is_at(TokenKind::Comma) {
-        comma_element(cursor, alloc, levels, are_messages, around, names)?;
+    if is_whole_word(cursor) {
+        return value_word(cursor, alloc, around, names);
     }
-    Ok(())
+    odd(cursor, names)
 }
 
-/// A `,` and an element.
-#[cycle(aggregates)]
-#[tactic(auto, unfolding(crate::specs::Reading::Aggregates::comma_element_at))]
-fn comma_element(
-    cursor: &mut Cursor<'_>,
-    alloc: Global,
-    levels: usize,
-    is_message: bool,
-    around: Option<usize>,
-    names: &mut Sequence<OptionName>,
-) -> Result<(), SyntaxFault>
-    ensures { Gives Skip (λ x. names.new) cursor.new result
-        (comma_element_at (within_at levels) is_message around names.old cursor.old) }
+/// Whether a list is over: at its `]`, and where what is around it is over.
+fn list_is_over(cursor: &Cursor<'_>) -> bool
+    ensures { result ≡ list_is_over cursor.now.left }
 {
-    cursor.token(TokenKind::Comma)?;
-    element(cursor, alloc, levels, is_message, around, names)
+    cursor.is_at(TokenKind::CloseBracket)
+        || (cursor.is_at(TokenKind::CloseBrace) || cursor.is_at(TokenKind::Greater))
 }
 
-/// A list's elements, at least one.
+/// The elements of a list.
 #[cycle(aggregates)]
-#[tactic(auto, unfolding(crate::specs::Reading::Aggregates::elements_at))]
 fn elements(
     cursor: &mut Cursor<'_>,
     alloc: Global,
     levels: usize,
-    are_messages: bool,
     around: Option<usize>,
     names: &mut Sequence<OptionName>,
 ) -> Result<(), SyntaxFault>
     ensures { Gives Skip (λ x. names.new) cursor.new result
-        (elements_at (within_at levels) are_messages around names.old cursor.old) }
+        (elements_at (message_at levels) around names.old cursor.old) }
 {
-    element(cursor, alloc, levels, are_messages, around, names)?;
-    comma_elements(cursor, alloc, levels, are_messages, around, names)
-}
-
-/// A list's elements, at least one, and its `]`.
-#[cycle(aggregates)]
-#[tactic(auto, unfolding(crate::specs::Reading::Aggregates::elements_closed_at))]
-fn elements_closed(
-    cursor: &mut Cursor<'_>,
-    alloc: Global,
-    levels: usize,
-    are_messages: bool,
-    around: Option<usize>,
-    names: &mut Sequence<OptionName>,
-) -> Result<(), SyntaxFault>
-    ensures { Gives Skip (λ x. names.new) cursor.new result
-        (elements_closed_at (within_at levels) are_messages around names.old cursor.old) }
-{
-    elements(cursor, alloc, levels, are_messages, around, names)?;
-    cursor.token(TokenKind::CloseBracket)?;
+    'elements: while !list_is_over(cursor) {
+        element(cursor, alloc, levels, around, names)?;
+    }
     Ok(())
 }
 
-/// A list in brackets, of messages or else of scalar values.
+/// A list in brackets.
 #[cycle(aggregates)]
 #[tactic(auto, unfolding(crate::specs::Reading::Aggregates::list_at))]
 fn list(
     cursor: &mut Cursor<'_>,
     alloc: Global,
     levels: usize,
-    are_messages: bool,
     around: Option<usize>,
     names: &mut Sequence<OptionName>,
 ) -> Result<(), SyntaxFault>
     ensures { Gives Skip (λ x. names.new) cursor.new result
-        (list_at (within_at levels) are_messages around names.old cursor.old) }
+        (list_at (message_at levels) around names.old cursor.old) }
 {
     cursor.token(TokenKind::OpenBracket)?;
-    if cursor.is_at(TokenKind::CloseBracket) {
-        cursor.advance();
-        return Ok(());
-    }
-    elements_closed(cursor, alloc, levels, are_messages, around, names)
+    elements(cursor, alloc, levels, around, names)?;
+    optional(cursor, TokenKind::CloseBracket)
 }
 
-/// A message in braces, or in `<` and `>`.
+/// What is given to a field. An odd value isn't taken here: it is read past as odd things are.
 #[cycle(aggregates)]
-#[tactic(auto, unfolding(crate::specs::Reading::Aggregates::message_value_at))]
-fn message_value(
+#[tactic(auto, unfolding(crate::specs::Reading::Aggregates::value_at))]
+fn value(
     cursor: &mut Cursor<'_>,
     alloc: Global,
     levels: usize,
@@ -340,94 +197,69 @@ fn message_value(
     names: &mut Sequence<OptionName>,
 ) -> Result<(), SyntaxFault>
     ensures { Gives Skip (λ x. names.new) cursor.new result
-        (message_value_at (within_at levels) around names.old cursor.old) }
+        (value_at (message_at levels) around names.old cursor.old) }
 {
-    if cursor.is_at(TokenKind::Less) {
-        cursor.advance();
-        return within(cursor, alloc, levels, TokenKind::Greater, around, names);
+    if is_message_next(cursor) {
+        return message(cursor, alloc, levels, around, names);
     }
-    cursor.token(TokenKind::OpenBrace)?;
-    within(cursor, alloc, levels, TokenKind::CloseBrace, around, names)
-}
-
-/// Whether the next token begins a message.
-fn is_message_next(cursor: &Cursor<'_>) -> bool
-    ensures { result ≡ is_message_next cursor.now.left }
-{
-    cursor.is_at(TokenKind::OpenBrace) || cursor.is_at(TokenKind::Less)
-}
-
-/// Whether the token behind the next one begins a message.
-fn is_message_second(cursor: &Cursor<'_>) -> bool
-    ensures { result ≡ is_message_next (others cursor.now.left) }
-{
-    cursor.is_before(TokenKind::OpenBrace) || cursor.is_before(TokenKind::Less)
-}
-
-/// A field's value, behind a colon or where one lacks: it may lack only in front of messages.
-#[cycle(aggregates)]
-#[tactic(auto, unfolding(crate::specs::Reading::Aggregates::value_behind_at))]
-fn value_behind(
-    cursor: &mut Cursor<'_>,
-    alloc: Global,
-    levels: usize,
-    has_colon: bool,
-    around: Option<usize>,
-    names: &mut Sequence<OptionName>,
-) -> Result<(), SyntaxFault>
-    ensures { Gives Skip (λ x. names.new) cursor.new result
-        (value_behind_at (within_at levels) has_colon around names.old cursor.old) }
-{
     if cursor.is_at(TokenKind::OpenBracket) {
-        let are_messages = !has_colon || is_message_second(cursor);
-        return list(cursor, alloc, levels, are_messages, around, names);
+        return list(cursor, alloc, levels, around, names);
     }
-    let is_message = !has_colon || is_message_next(cursor);
-    element(cursor, alloc, levels, is_message, around, names)
+    if is_whole_word(cursor) {
+        return value_word(cursor, alloc, around, names);
+    }
+    Ok(())
 }
 
-/// A field's value, with the colon in front of it, if there is one.
+/// What is behind a field's name, with the name.
 #[cycle(aggregates)]
-#[tactic(auto, unfolding(crate::specs::Reading::Aggregates::field_value_at))]
-fn field_value(
+#[tactic(auto, unfolding(crate::specs::Reading::Aggregates::field_at))]
+fn field(
     cursor: &mut Cursor<'_>,
     alloc: Global,
     levels: usize,
     around: Option<usize>,
+    name: FieldName,
     names: &mut Sequence<OptionName>,
 ) -> Result<(), SyntaxFault>
     ensures { Gives Skip (λ x. names.new) cursor.new result
-        (field_value_at (within_at levels) around names.old cursor.old) }
-{
-    if cursor.is_at(TokenKind::Colon) {
-        cursor.advance();
-        return value_behind(cursor, alloc, levels, true, around, names);
-    }
-    value_behind(cursor, alloc, levels, false, around, names)
-}
-
-/// A field of a message, with its value and what ends it.
-#[cycle(aggregates)]
-#[tactic(auto, unfolding(crate::specs::Reading::Aggregates::text_field_at))]
-fn text_field(
-    cursor: &mut Cursor<'_>,
-    alloc: Global,
-    levels: usize,
-    around: Option<usize>,
-    names: &mut Sequence<OptionName>,
-) -> Result<(), SyntaxFault>
-    ensures { Gives Skip (λ x. names.new) cursor.new result
-        (text_field_at (within_at levels) around names.old cursor.old) }
+        (field_at (message_at levels) around name names.old cursor.old) }
 {
     let number = count(names);
-    field_name(cursor, alloc, around, names)?;
-    field_value(cursor, alloc, levels, Some(number), names)?;
-    separator(cursor)
+    optional(cursor, TokenKind::Colon)?;
+    push_name(names, name.role, around, plain(name.components))?;
+    value(cursor, alloc, levels, Some(number), names)
 }
 
-/// The fields of a message, up to what closes it.
+/// A field of a message with its value, or else an odd thing.
 #[cycle(aggregates)]
-fn text_fields(
+#[tactic(auto, unfolding(crate::specs::Reading::Aggregates::item_at))]
+fn item(
+    cursor: &mut Cursor<'_>,
+    alloc: Global,
+    levels: usize,
+    around: Option<usize>,
+    names: &mut Sequence<OptionName>,
+) -> Result<(), SyntaxFault>
+    ensures { Gives Skip (λ x. names.new) cursor.new result
+        (item_at (message_at levels) around names.old cursor.old) }
+{
+    match begin(cursor, alloc)? {
+        Some(name) => field(cursor, alloc, levels, around, name, names),
+        None => odd(cursor, names),
+    }
+}
+
+/// Whether a message is over: at what closes it, and at the `}` that closes what is around it.
+fn is_over(cursor: &Cursor<'_>, closing: TokenKind) -> bool
+    ensures { result ≡ is_over closing cursor.now.left }
+{
+    cursor.is_at(closing) || cursor.is_at(TokenKind::CloseBrace)
+}
+
+/// What is in a message.
+#[cycle(aggregates)]
+fn items(
     cursor: &mut Cursor<'_>,
     alloc: Global,
     levels: usize,
@@ -436,33 +268,60 @@ fn text_fields(
     names: &mut Sequence<OptionName>,
 ) -> Result<(), SyntaxFault>
     ensures { Gives Skip (λ x. names.new) cursor.new result
-        (fields_at (within_at levels) closing around names.old cursor.old) }
+        (items_at (message_at levels) closing around names.old cursor.old) }
 {
-    'fields: while !cursor.is_at(closing) {
-        text_field(cursor, alloc, levels, around, names)?;
+    'items: while !is_over(cursor, closing) {
+        item(cursor, alloc, levels, around, names)?;
     }
     Ok(())
 }
 
-/// What is behind a `{` or a `<`, up to and with what closes it. At most this many braces are inside one another in it,
-/// itself among them: TooDeep behind the next `{` or `<`.
+/// What is in a message, and what closes it.
+#[cycle(aggregates)]
+#[tactic(auto, unfolding(crate::specs::Reading::Aggregates::body_at))]
+fn body(
+    cursor: &mut Cursor<'_>,
+    alloc: Global,
+    levels: usize,
+    closing: TokenKind,
+    around: Option<usize>,
+    names: &mut Sequence<OptionName>,
+) -> Result<(), SyntaxFault>
+    ensures { Gives Skip (λ x. names.new) cursor.new result
+        (body_at (message_at levels) closing around names.old cursor.old) }
+{
+    items(cursor, alloc, levels, closing, around, names)?;
+    optional(cursor, closing)
+}
+
+/// A message in braces, or in `<` and `>`. At most this many are inside one another in it, itself among them: what is
+/// deeper is read past.
 #[cycle(aggregates)]
 #[tactic(auto, using(crate::proofs::LevelLemmas::no_level, crate::proofs::LevelLemmas::some_level))]
-pub(crate) fn within(
+pub(crate) fn message(
     cursor: &mut Cursor<'_>,
     alloc: Global,
     levels: usize,
-    closing: TokenKind,
     around: Option<usize>,
     names: &mut Sequence<OptionName>,
 ) -> Result<(), SyntaxFault>
-    ensures { Gives Skip (λ x. names.new) cursor.new result
-        (within_at levels closing around names.old cursor.old) }
+    ensures { Gives Skip (λ x. names.new) cursor.new result (message_at levels around names.old cursor.old) }
 {
     if levels == 0 {
-        return Err(SyntaxFault::TooDeep(cursor.offset()));
+        pass_one(cursor);
+        return Ok(());
     }
-    text_fields(cursor, alloc, levels - 1, closing, around, names)?;
-    cursor.token(closing)?;
-    Ok(())
+    if cursor.is_at(TokenKind::Less) {
+        cursor.advance();
+        return body(cursor, alloc, levels - 1, TokenKind::Greater, around, names);
+    }
+    cursor.token(TokenKind::OpenBrace)?;
+    body(
+        cursor,
+        alloc,
+        levels - 1,
+        TokenKind::CloseBrace,
+        around,
+        names,
+    )
 }

@@ -2,14 +2,14 @@
 //!
 //! It is as the parser's, but it can be gone back to: the same tokens may be read twice.
 
-ghost use Rattle.std.specs.Prelude.{◌≡◌, ◌&&◌, cond, false, Some, None, length, bytes_eq, option_map, slice_get};
+ghost use Rattle.std.specs.Prelude.{◌≡◌, ◌&&◌, cond, false, Some, None, length, drop, bytes_eq, option_map, slice_get};
 ghost use Rattle.std.specs.Option.{option_map_or};
 ghost use Rattle.proto_grammar.specs.Gives.{Gives};
 ghost use Rattle.proto_grammar.specs.declared.dialect.CustomOptions.TheVariants.{Skip};
 ghost use Rattle.proto_grammar.specs.Terminal.{first, others, first_is, of_kind, is_word, is_end, is_kind};
 ghost use Rattle.proto_grammar.specs.Terminal.{offset_at, behind};
 ghost use Rattle.proto_grammar.specs.Reading.Repetition.{token_that};
-ghost use Rattle.proto_grammar.specs.Lexeme.{start_of};
+ghost use Rattle.proto_grammar.specs.Lexeme.{start_of, place_of, lexemes_of};
 ghost use Rattle.proto_grammar.specs.View.{lexeme_view};
 ghost use Rattle.proto_lex.specs.Lexed.{part_of};
 ghost use Rattle.proto_lex.specs.declared.token.TokenKind.TheVariants.{Identifier, Dot};
@@ -108,6 +108,14 @@ impl<'t> Cursor<'t> {
         Cursor { tokens, next: 0 }
     }
 
+    /// The place before the token with this index, or behind all tokens.
+    pub(crate) fn at(tokens: &'t Tokens<'t, 't>, next: usize) -> Cursor<'t>
+        ensures { result
+            ≡ place_of (length tokens.now.text) (drop next (lexemes_of tokens.now.text tokens.now.tokens)) }
+    {
+        Cursor { tokens, next }
+    }
+
     /// The same place, to go back to.
     pub(crate) fn place(&self) -> Cursor<'t>
         ensures { result ≡ self.now }
@@ -191,7 +199,7 @@ impl<'t> Cursor<'t> {
     }
 
     /// The place after the next token, if there is one.
-    fn behind(&self) -> Cursor<'t>
+    pub(crate) fn behind(&self) -> Cursor<'t>
         ensures { result ≡ behind self.now }
     {
         let mut behind = self.place();

@@ -18,6 +18,8 @@ pub enum OptionRole {
     Extension,
     /// A message, in brackets behind a `/`: that of what is packed in a `google.protobuf.Any`.
     Message,
+    /// The same behind a domain by which `protoc` finds no message: it names nothing.
+    Elsewhere,
     /// A value of an enum.
     Value,
 }
@@ -44,6 +46,15 @@ pub struct Setting {
     pub names: Sequence<OptionName>,
 }
 
+/// A field's name in braces.
+#[derive(Debug, Drop)]
+pub(crate) struct FieldName {
+    /// What it may name: a field, or in brackets an extension or a packed message.
+    pub(crate) role: OptionRole,
+    /// Its components.
+    pub(crate) components: Sequence<Span>,
+}
+
 /// Adds a name at the end.
 pub(crate) fn push_name(
     names: &mut Sequence<OptionName>,
@@ -67,13 +78,20 @@ pub(crate) fn plain(components: Sequence<Span>) -> TypeName
     }
 }
 
+/// One component.
+pub(crate) fn one_component(alloc: Global, word: Span) -> Result<Sequence<Span>, AllocError>
+    ensures { IfOk result (λ components. components ≡ word ∷ []) }
+{
+    let mut components = Sequence::from_vec(Vec::with_capacity(alloc, 1)?);
+    components.push(word)?;
+    Ok(components)
+}
+
 /// The name of one component.
 pub(crate) fn one_word(alloc: Global, word: Span) -> Result<TypeName, AllocError>
     ensures { IfOk result (λ name. name ≡ spec.one_word word) }
 {
-    let mut components = Sequence::from_vec(Vec::with_capacity(alloc, 1)?);
-    components.push(word)?;
-    Ok(plain(components))
+    Ok(plain(one_component(alloc, word)?))
 }
 
 /// How many names there are.

@@ -22,8 +22,8 @@ use std::alloc::Global;
 /// `package_name` is the full name of its package, which is empty if it has none.
 ///
 /// What is in braces as a value is read as a message of the text format, with at most [`MAX_AGGREGATE_DEPTH`] braces
-/// inside one another. Where it is none, it is read past, and nothing in it is named: the names of the file's other
-/// options, and the parts of this option's name, are as they are. So the only fault is Memory.
+/// inside one another. What is no part of one, or deeper, is read past, and nothing in it is named: the other names are
+/// as they are. So the only fault is Memory.
 ///
 /// [`MAX_AGGREGATE_DEPTH`]: crate::MAX_AGGREGATE_DEPTH
 pub fn options_of(

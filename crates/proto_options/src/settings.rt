@@ -8,13 +8,12 @@ ghost use Rattle.proto_grammar.specs.Reading.Repetition.{token_that};
 ghost use Rattle.proto_grammar.specs.View.{lexeme_view};
 ghost use Rattle.proto_options.specs.Reading.Settings.{type_name_at, extension_at, part_at, dot_part_at, dot_parts_at};
 ghost use Rattle.proto_options.specs.Reading.Settings.{option_name_at, name_value_at, signed_value_at, aggregate_at};
-ghost use Rattle.proto_options.specs.Reading.Settings.{value_at, named_setting_at, passed_setting_at, is_memory};
-ghost use Rattle.proto_options.specs.Reading.Settings.{setting_at};
+ghost use Rattle.proto_options.specs.Reading.Settings.{value_at, setting_at};
 
-use crate::aggregates::{MAX_AGGREGATE_DEPTH, numeral, strings, within, word};
+use crate::aggregates::{MAX_AGGREGATE_DEPTH, message, numeral, strings, word};
 use crate::cursor::Cursor;
 use crate::names::{OptionName, OptionRole, Setting, count, last_number, plain, push_name};
-use crate::passing::{dotted_name, pass_braces};
+use crate::passing::dotted_name;
 use basics::Sequence;
 use proto_grammar::{Lexeme, SyntaxFault};
 use proto_lex::{Span, TokenKind};
@@ -206,15 +205,7 @@ fn aggregate(
     ensures { Gives Skip (λ x. names.new) cursor.new result (aggregate_at names.old cursor.old) }
 {
     let around = last_number(names);
-    cursor.token(TokenKind::OpenBrace)?;
-    within(
-        cursor,
-        alloc,
-        MAX_AGGREGATE_DEPTH,
-        TokenKind::CloseBrace,
-        around,
-        names,
-    )
+    message(cursor, alloc, MAX_AGGREGATE_DEPTH, around, names)
 }
 
 /// The value of an option, which is given to the last of the names.
@@ -243,51 +234,13 @@ fn value(
 }
 
 /// An option's name, `=` and its value, with all names in it.
-#[tactic(auto, unfolding(crate::specs::Reading::Settings::named_setting_at))]
-fn named_setting(cursor: &mut Cursor<'_>, alloc: Global) -> Result<Setting, SyntaxFault>
-    ensures { Gives Skip (λ x. x) cursor.new result (named_setting_at cursor.old) }
+#[tactic(auto, unfolding(crate::specs::Reading::Settings::setting_at))]
+pub(crate) fn setting(cursor: &mut Cursor<'_>, alloc: Global) -> Result<Setting, SyntaxFault>
+    ensures { Gives Skip (λ x. x) cursor.new result (setting_at cursor.old) }
 {
     let mut names = option_name(cursor, alloc)?;
     let parts = count(&names);
     cursor.token(TokenKind::Equals)?;
     value(cursor, alloc, &mut names)?;
     Ok(Setting { parts, names })
-}
-
-/// An option's name, `=` and braces, which are read past.
-#[tactic(auto, unfolding(crate::specs::Reading::Settings::passed_setting_at))]
-fn passed_setting(cursor: &mut Cursor<'_>, alloc: Global) -> Result<Setting, SyntaxFault>
-    ensures { Gives Skip (λ x. x) cursor.new result (passed_setting_at cursor.old) }
-{
-    let names = option_name(cursor, alloc)?;
-    cursor.token(TokenKind::Equals)?;
-    pass_braces(cursor)?;
-    Ok(Setting {
-        parts: count(&names),
-        names,
-    })
-}
-
-/// Whether memory ran out.
-fn is_memory(fault: &SyntaxFault) -> bool
-    ensures { result ≡ is_memory fault.now }
-{
-    matches!(fault, SyntaxFault::Memory)
-}
-
-/// An option's name, `=` and its value, with all names in it. Braces that have no message in them are read past.
-pub(crate) fn setting(cursor: &mut Cursor<'_>, alloc: Global) -> Result<Setting, SyntaxFault>
-    ensures { Gives Skip (λ x. x) cursor.new result (setting_at cursor.old) }
-{
-    let start = cursor.place();
-    match named_setting(cursor, alloc) {
-        Ok(setting) => Ok(setting),
-        Err(fault) => {
-            if is_memory(&fault) {
-                return Err(fault);
-            }
-            *cursor = start;
-            passed_setting(cursor, alloc)
-        }
-    }
 }

@@ -70,12 +70,12 @@ rpc n (M) returns (M); }",
     ),
     (
         "package p; option (x).y = { n { i 2 } }; option z = { b: V };",
-        "file in p: (x) y<0\nfile in p: z | b<0 =V<1\n",
+        "file in p: (x) y<0 | n<1\nfile in p: z | b<0 =V<1\n",
     ),
     (
         "package p; message M { extensions 4 to 6 [(x) = { a: [1, ] { } }, y = { b: 1 }]; \
 optional int32 f = 1 [z = { ; }]; }",
-        "range in p: (x)\nrange in p: y | b<0\nfield f in p.M: z\n",
+        "range in p: (x) | a<0\nrange in p: y | b<0\nfield f in p.M: z\n",
     ),
     (
         "package p; service S { rpc m (M) returns (M) { option (h) = { get '/' }; } option a = { b: 1 }; }",

@@ -10,4 +10,6 @@ mod fields;
 #[cfg(test)]
 mod listed;
 #[cfg(test)]
+mod messages;
+#[cfg(test)]
 mod packages;

@@ -42,6 +42,7 @@ fn signs_of(role: OptionRole) -> (&'static str, &'static str) {
         OptionRole::Field => (" ", ""),
         OptionRole::Extension => (" (", ")"),
         OptionRole::Message => (" [/", "]"),
+        OptionRole::Elsewhere => (" [?/", "]"),
         OptionRole::Value => (" =", ""),
     }
 }

@@ -19,8 +19,9 @@ use Rattle.proto_decl.specs.Facts.{Facts, ImportsInOrder}
 use Rattle.proto_decl.specs.declared.imports.Imported.{Imported}
 use Rattle.proto_visibility.specs.declared.files.FilePlace.{FilePlace}
 use Rattle.proto_visibility.specs.Files.{File, HasFacts, HasPath, IsPresent, is_public, HasPathAt}
-use Rattle.proto_visibility.specs.Sees.{IsReachable}
-use Rattle.proto_visibility.specs.Sees.IsReachable.{seen}
+use Rattle.proto_visibility.specs.Reaches.{IsReachable}
+use Rattle.proto_visibility.specs.Reaches.IsReachable.{reached}
+use Rattle.proto_visibility.specs.Reaches.Reaches.{sees}
 use Rattle.proto_visibility.specs.Sees.SeesBy.{itself}
 use Rattle.proto_visibility.specs.Clashes.{Before}
 use Rattle.proto_visibility.specs.Absences.{IsNeeded, IsMissing, Absent, NoAbsent, AreMissing}
@@ -260,7 +261,7 @@ module _ (files : List File) (number : List ℕ → Option ℕ)
       is_false false e = refl
 
       here_present : IsReachable files k → file.is_left_out ≡ false
-      here_present (seen is sees present) =
+      here_present (reached is reaches present) =
           ap (λ (f : File). f.is_left_out) (same_Some file present.file (sym stands ∙ present.numbered))
           ∙ present.present
 
@@ -278,7 +279,7 @@ module _ (files : List File) (number : List ℕ → Option ℕ)
       record {
         file = is.file;
         stands = is.numbered;
-        is_reachable = seen is itself (record { file = is.file; numbered = is.numbered; present = is.present });
+        is_reachable = reached is (sees itself) (record { file = is.file; numbered = is.numbered; present = is.present });
         listed = subst (λ f. Contains (imports_in f) import)
             (sym (ap (λ (f : File). f.facts) same ∙ known.known)) listed;
         needed = subst (λ b. (not b || is_public import.kind) ≡ true) (sym is.source) refl;

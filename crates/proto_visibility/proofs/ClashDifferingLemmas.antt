@@ -13,7 +13,7 @@ use Rattle.basics.proofs.ListLemmas.{item_at, only}
 use Rattle.proto_decl.specs.Names.{hash64}
 use Rattle.proto_decl.specs.declared.declaration.Declaration.{Declaration}
 use Rattle.proto_visibility.specs.Files.{File}
-use Rattle.proto_visibility.specs.Sees.{IsReachable}
+use Rattle.proto_visibility.specs.Reaches.{IsReachable}
 use Rattle.proto_visibility.specs.Clashes.{Before, Item, IsItem, NoClashBy}
 use Rattle.proto_visibility.specs.Clashes.IsItemBy.{declared, packaged}
 use Rattle.proto_visibility.specs.Tables.FileItems.{AreAllPrefixes, ArePrefixes, declared_item, package_name_in}
@@ -138,7 +138,7 @@ more_up_to files row count number file old new is stands added so_far = (
 -- ---- all of them, and the packages
 
 -- what a test of a list doesn't find in it
-none_passes : {X : Type 0} (test : X → Bool) (xs : List X) → list_any test xs ≡ false → (x : X) → Contains xs x
+pub none_passes : {X : Type 0} (test : X → Bool) (xs : List X) → list_any test xs ≡ false → (x : X) → Contains xs x
     → test x ≡ false
 none_passes test [] none x there = absurd (omega (arith, there.1))
 none_passes test (y ∷ ys) none x there = elim (cases_Bool (test y)) [

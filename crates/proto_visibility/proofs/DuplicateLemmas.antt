@@ -13,7 +13,7 @@ use Rattle.proto_visibility.specs.declared.files.FilePlace.{FilePlace}
 use Rattle.proto_visibility.specs.declared.clash.Duplicates.{Duplicates}
 use Rattle.proto_visibility.specs.declared.clash.Duplicates.TheVariants.{Refuse, Keep}
 use Rattle.proto_visibility.specs.Files.{File, HasFacts}
-use Rattle.proto_visibility.specs.Sees.{IsReachable}
+use Rattle.proto_visibility.specs.Reaches.{IsReachable}
 use Rattle.proto_visibility.specs.Clashes.{Before, Item, IsItem, IsOwnItem, Excludes, ClashBy}
 use Rattle.proto_visibility.specs.Clashes.{NoClashBy, Clash, NoClash, ShareNames}
 use Rattle.proto_visibility.specs.Tables.FileItems.{IsItemIn, IsItemOf}
@@ -142,8 +142,8 @@ module _ (files : List File) (row : List ℕ) (reachable : (number : ℕ) → Co
     ]
 
     pub no_own_clash : (count : ℕ) → length row ≤ count → NoneOwnUpTo files row count → NoClash Keep files
-    no_own_clash count all so_far number reached =
-        let at = (reachable number).1 reached in
+    no_own_clash count all so_far number is =
+        let at = (reachable number).1 is in
         subst (λ n. NoClashBy Before (IsOwnItem files n)) (get_or_default row at.0 0 number at.1 ∙ at.2)
         (so_far at.0 (omega (arith, at.1, all)))
 
@@ -154,8 +154,8 @@ module _ (files : List File) (row : List ℕ) (reachable : (number : ℕ) → Co
       number = number;
       is_reachable = (reachable number).0 (subst (Contains row) (sym is) (Contains-get_or row count 0 within));
       clash = clash_by (own_items files number file stands) first second clash;
-      least = λ other reached less.
-          let at = (reachable other).1 reached in
+      least = λ other is_one less.
+          let at = (reachable other).1 is_one in
           let same : get_or row at.0 0 ≡ other = get_or_default row at.0 0 other at.1 ∙ at.2 in
           elim (cases_lt at.0 count) [
             | inl before ↦ subst (λ n. NoClashBy Before (IsOwnItem files n)) same (so_far at.0 before)

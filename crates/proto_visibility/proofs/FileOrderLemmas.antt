@@ -40,7 +40,7 @@ stands_at : (xs : List ℕ) (k x : ℕ) → k < length xs → get_or xs k 0 ≡ 
 stands_at xs k x within is = slice_get-get_or xs k 0 within ∙ ap Some is
 
 -- two places have two files
-apart : (files : List ℕ) (j k : ℕ) → IsDistinct eqb files → j < k → k < length files
+pub apart : (files : List ℕ) (j k : ℕ) → IsDistinct eqb files → j < k → k < length files
     → get_or files j 0 ≡ get_or files k 0 → ⊥
 apart files j k distinct less within same =
     false≢true (sym (apart_from_distinct eqb files j k 0 distinct less within)

@@ -13,7 +13,7 @@ use Rattle.basics.proofs.ListLemmas.{only}
 use Rattle.proto_decl.specs.Facts.{Facts}
 use Rattle.proto_decl.specs.declared.declaration.Declaration.{Declaration}
 use Rattle.proto_visibility.specs.Files.{File, HasFacts}
-use Rattle.proto_visibility.specs.Sees.{IsReachable}
+use Rattle.proto_visibility.specs.Reaches.{IsReachable}
 use Rattle.proto_visibility.specs.Clashes.{Item, IsItem, IsItemBy, BeforeBy}
 use Rattle.proto_visibility.specs.Clashes.IsItemBy.{declared, packaged}
 use Rattle.proto_visibility.specs.Tables.ClashTables.{AreInPlace, AreInPlaceBy}

@@ -10,9 +10,10 @@ use Rattle.proto_visibility.specs.declared.clash.Duplicates.TheVariants.{Refuse,
 use Rattle.proto_visibility.specs.declared.omissions.FileOmission.{FileOmission}
 use Rattle.proto_visibility.specs.declared.omissions.FileOmission.TheVariants.{Broken, Duplicate}
 use Rattle.proto_visibility.specs.Files.{File, IsSource}
-use Rattle.proto_visibility.specs.Sees.{IsReachable}
+use Rattle.proto_visibility.specs.Reaches.{IsReachable}
 use Rattle.proto_visibility.specs.Sees.SeesBy.{itself}
-use Rattle.proto_visibility.specs.Sees.IsReachable.{seen}
+use Rattle.proto_visibility.specs.Reaches.IsReachable.{reached}
+use Rattle.proto_visibility.specs.Reaches.Reaches.{sees}
 use Rattle.proto_visibility.specs.Clashes.{Before, Item, IsItem, IsItemBy, Excludes, NoClashBy, ShareNames}
 use Rattle.proto_visibility.specs.Absences.{IsUnreadBy}
 use Rattle.proto_visibility.specs.Linked.{HaveClearNames}
@@ -20,7 +21,7 @@ use Rattle.proto_visibility.specs.Kept.{Omissions, IsKeptFile, IsCounted, IsTake
 use Rattle.proto_visibility.specs.Kept.{IsOmission}
 use Rattle.proto_visibility.specs.Kept.{AreOmissions, kept_of, linked_of, number_among_all}
 use Rattle.proto_visibility.specs.Kept.{AreAllKept, OneKept, NothingIsLeftOutOfGoodFiles, KeptFilesAreClear}
-use Rattle.proto_visibility.specs.Kept.IsCounted.{is_source, is_seen}
+use Rattle.proto_visibility.specs.Kept.IsCounted.{is_source, is_reached}
 use Rattle.proto_visibility.specs.Kept.IsTakenBefore.{of_sources, source_first, of_others}
 use Rattle.proto_visibility.proofs.DuplicateLemmas.{none_from, none_to, shared_turned}
 use Rattle.proto_visibility.proofs.ItemAllLemmas.{file_within, item_counts}
@@ -56,8 +57,8 @@ module _ (duplicates : Duplicates) (files : List File) where
   counted_as : (a b : Omissions) (n : ℕ) → ((m : ℕ) → IsSource files m → IsKeptFile a m → IsKeptFile b m)
       → IsCounted files a n → IsCounted files b n
   counted_as a b n same (is_source is) = is_source is
-  counted_as a b n same (is_seen {source = source} is kept sees present) =
-      is_seen is (same source is kept) sees present
+  counted_as a b n same (is_reached {source = source} is kept reaches present) =
+      is_reached is (same source is kept) reaches present
 
   pub met : (a b : Omissions) (n : ℕ) → ((m : ℕ) → IsTakenBefore files m n → IsKeptFile a m → IsKeptFile b m)
       → ((m : ℕ) → (m ≡ n) ⊎ IsTakenBefore files m n → IsCounted files a m → IsCounted files b m)
@@ -219,8 +220,8 @@ file_of files item is = file_within item is
 reachable_of : (files : List File) (omissions : Omissions) (number : ℕ) → IsCounted files omissions number
     → IsReachable files number
 reachable_of files omissions number (is_source is) =
-    seen is itself (record { file = is.file; numbered = is.numbered; present = is.present })
-reachable_of files omissions number (is_seen is kept sees present) = seen is sees present
+    reached is (sees itself) (record { file = is.file; numbered = is.numbered; present = is.present })
+reachable_of files omissions number (is_reached is kept reaches present) = reached is reaches present
 
 -- of good files none that counts is without facts
 pub clear_read : (duplicates : Duplicates) (files : List File) (omissions : Omissions)
@@ -305,8 +306,8 @@ nothing_is_left_out duplicates files omissions are = (
         slice_get-get_or omissions number None within ∙ ap Some (all number None within)
 
     counted : AreAllKept omissions → (number : ℕ) → IsReachable files number → IsCounted files omissions number
-    counted all number (seen {source = source} is sees present) =
-        is_seen is (kept all source (slice_get_within files source is.file is.numbered)) sees present
+    counted all number (reached {source = source} is reaches present) =
+        is_reached is (kept all source (slice_get_within files source is.file is.numbered)) reaches present
 
     by : HaveClearNames duplicates files → (k : ℕ) (o : Option FileOmission)
         → IsOmission duplicates files omissions k o → o ≡ None
@@ -335,7 +336,7 @@ kept_are_clear duplicates files omissions are own = (
   record {
     read = λ number unread.
         let n = number_among_all omissions number in
-        let counts = counted_among files omissions number unread.counts in
+        let counts = counted_among files omissions are.one_each number unread.counts in
         let known = present_unread files omissions number unread.counts unread.file unread.numbered in
         (are.each n None counts.1).0 (record {
           file = unread.file;
@@ -345,8 +346,8 @@ kept_are_clear duplicates files omissions are own = (
         });
     clear = none_from duplicates (linked_of omissions files) (λ a b can e.
         kept_apart duplicates files omissions are (moved files omissions a) (moved files omissions b)
-        (item_among files omissions a e.first_is) (item_among files omissions b e.second_is)
-        (item_kept files omissions a e.first_is) (item_kept files omissions b e.second_is)
+        (item_among files omissions are.one_each a e.first_is) (item_among files omissions are.one_each b e.second_is)
+        (item_kept files omissions are.one_each a e.first_is) (item_kept files omissions are.one_each b e.second_is)
         (shared_among duplicates omissions a.place.file b.place.file can)
         (order_among files omissions a b e.ordered) e.one_name e.declares);
   },

@@ -1,6 +1,8 @@
 -- Each file is named after the spec or source that it serves.
 -- The first import that isn't there
 pub mod AbsentLemmas
+-- Searches backwards: steps that are turned, and for each file the first end that leads to it
+pub mod BackwardLemmas
 -- Names that can't clash, since the numbers of them differ
 pub mod ClashDifferingLemmas
 -- The first clash of names, over items in order of place
@@ -37,14 +39,24 @@ pub mod LookupListedLemmas
 pub mod LookupTwiceLemmas
 -- Tables of the names that files give
 pub mod NameLemmas
--- The files without facts are left out; what kept sources see; and the order of all items
+-- The files without facts are left out; what kept sources reach; and the order of all items
 pub mod OmissionLemmas
 -- What is left out where each file is a namespace of its own
 pub mod OmissionOwnLemmas
--- What is left out of the sources, and then of the other files that kept ones see
+-- What is left out of the sources, and then of the other files that kept ones reach
 pub mod OmissionPassLemmas
+-- In which file each source has the messages of its options
+pub mod OptionLemmas
+-- Files that are a part of others
+pub mod PartLemmas
+-- What they lead to, and what sources of them reach
+pub mod PartReachLemmas
+-- They can be linked, if those can
+pub mod PartLinkedLemmas
 -- The pass over items that leaves out the files with a clash
 pub mod PassLemmas
+-- What sources reach, by one search from those whose options are linked, and then from all
+pub mod ReachingLemmas
 -- Rows of numbers that rise, and binary search in them
 pub mod RowRisingLemmas
 -- Runs of numbers
@@ -55,3 +67,5 @@ pub mod SearchLemmas
 pub mod SeeingLemmas
 -- Which files are reachable, by one search from all sources
 pub mod SeeingReachableLemmas
+-- The numbers of the files of a kind, as they are collected in order
+pub mod ThoseLemmas

@@ -1,26 +1,26 @@
--- The files without facts are left out; what kept sources see; and the order of all items.
+-- The files without facts are left out; what kept sources reach; and the order of all items.
 use Rattle.std.proofs.Common.{◌≡◌, ◌↔◌, ◌⊎◌, inl, inr, ℕ, ◌<◌, Bool, true, false, not, ◌&&◌, List, [], ◌∷◌, ◌++◌, length}
-use Rattle.std.proofs.Common.{Option, Some, None, refl, ap, sym, ◌∙◌, subst, arith}
+use Rattle.std.proofs.Common.{Option, Some, None, ◌+◌, get_or, take, refl, ap, sym, ◌∙◌, subst, arith}
 use Rattle.std.specs.Prelude.{slice_set}
 use Rattle.std.specs.List.{Contains, filter, slice_get}
 use Rattle.std.proofs.lemmas.Bool.{and_parts, cases_order, false≢true, not-true}
-use Rattle.std.proofs.lemmas.Option.{slice_get_within, same_Some}
+use Rattle.std.proofs.lemmas.Option.{slice_get_within, slice_get-get_or, same_Some}
 use Rattle.std.proofs.lemmas.List.Elements.{Contains-append_left, Contains-push, Contains-push_cases}
-use Rattle.basics.proofs.FirstLemmas.{contained}
+use Rattle.basics.proofs.FirstLemmas.{contained, take_next}
 use Rattle.proto_decl.specs.Facts.{Facts}
 use Rattle.proto_visibility.specs.declared.omissions.FileOmission.TheVariants.{Broken}
-use Rattle.proto_visibility.specs.declared.import_table.Steps.{Steps}
 use Rattle.proto_visibility.specs.Files.{File, IsPresent, IsSource}
-use Rattle.proto_visibility.specs.Sees.{Sees}
+use Rattle.proto_visibility.specs.Reaches.{LinksOptions, Reaches}
 use Rattle.proto_visibility.specs.Clashes.{Before, BeforeBy, Item}
 use Rattle.proto_visibility.specs.Absences.{IsUnreadBy}
-use Rattle.proto_visibility.specs.Kept.{Omissions, IsCounted, IsTakenBefore}
-use Rattle.proto_visibility.specs.Kept.IsCounted.{is_source, is_seen}
+use Rattle.proto_visibility.specs.Kept.{Omissions, IsCounted, IsKeptFile, IsTakenBefore}
+use Rattle.proto_visibility.specs.Kept.IsCounted.{is_source, is_reached}
 use Rattle.proto_visibility.specs.Kept.IsTakenBefore.{of_sources, source_first, of_others}
 use Rattle.proto_visibility.specs.Tables.ClashTables.{AreInPlace, AreInPlaceBy}
-use Rattle.proto_visibility.specs.Tables.ImportTables.{HasStep, IsTableOf, IsLedTo, is_other, is_other_at}
+use Rattle.proto_visibility.specs.Tables.ImportTables.{is_other, is_other_at}
+use Rattle.proto_visibility.specs.Tables.OptionTables.{IsLinkingSource}
 use Rattle.proto_visibility.specs.Tables.Passes.{AreUnreadOmitted, IsUnreadOmitted, IsKeptSource}
-use Rattle.proto_visibility.proofs.SeeingReachableLemmas.{HasBegun, found_all, filtered}
+use Rattle.proto_visibility.proofs.SeeingReachableLemmas.{filtered}
 use Rattle.proto_visibility.proofs.ItemAllLemmas.{in_place_both}
 use Rattle.proto_visibility.proofs.PassLemmas.{length_set, set_elsewhere, set_there}
 
@@ -118,7 +118,7 @@ module _ (files : List File) (row : List ℕ) (number : ℕ) (file : File) (stan
     | inr known ↦ unread_same known (stays known)
   ]
 
--- ---- what kept sources see
+-- ---- what kept sources reach
 
 other_from : (files : List File) (number : ℕ) → is_other_at files number ≡ true
     → IsPresent files number × (IsSource files number → ⊥)
@@ -150,34 +150,98 @@ kept_source_within files omissions number is = slice_get_within files number is.
 pub counted_within : (files : List File) (omissions : Omissions) (number : ℕ) → IsCounted files omissions number
     → number < length files
 counted_within files omissions number (is_source is) = slice_get_within files number is.file is.numbered
-counted_within files omissions number (is_seen is kept sees present) =
+counted_within files omissions number (is_reached is kept reaches present) =
     slice_get_within files number present.file present.numbered
 
-pub seen_all : (files : List File) (omissions : Omissions) (table : List Steps) (starts numbers others : List ℕ)
-    → IsTableOf files table → HasBegun (IsKeptSource files omissions) table (length files) starts
-    → ((other : ℕ) → Contains numbers other ↔ IsLedTo (HasStep table) starts other)
+pub reached_others : (files : List File) (omissions : Omissions) (numbers others : List ℕ)
+    → ((number : ℕ) → Contains numbers number
+    ↔ ((source : ℕ) × IsKeptSource files omissions source × Reaches files source number))
     → others ≡ filter (is_other_at files) numbers
     → (number : ℕ) → Contains others number
     ↔ (IsCounted files omissions number × (IsSource files number → ⊥))
-seen_all files omissions table starts numbers others are begun led are_others number = (
+reached_others files omissions numbers others all are_others number = (
   λ there. (
       let its = (filtered (is_other_at files) numbers others are_others number).0 there in
       let from = (all number).0 its.0 in
       let other = other_from files number its.1 in
-      (is_seen from.1.0 from.1.1 from.2 other.0, other.1)),
+      (is_reached from.1.0 from.1.1 from.2 other.0, other.1)),
   λ is. by is.0 is.1,
 )
   where
-    all : (n : ℕ) → Contains numbers n
-        ↔ ((start : ℕ) × IsKeptSource files omissions start × Sees files start n)
-    all = found_all (IsKeptSource files omissions) files table starts numbers (kept_source_within files omissions)
-        are begun led
-
     by : IsCounted files omissions number → (IsSource files number → ⊥) → Contains others number
     by (is_source is) isnt = absurd (isnt is)
-    by (is_seen {source = source} is kept sees present) isnt =
+    by (is_reached {source = source} is kept reaches present) isnt =
         (filtered (is_other_at files) numbers others are_others number).1
-        ((all number).1 (source, (is, kept), sees), to_other files number present isnt)
+        ((all number).1 (source, (is, kept), reaches), to_other files number present isnt)
+
+-- those of some files that are kept
+abbrev pub IsAmong : Omissions → (numbers kept : List ℕ) → Type 0
+IsAmong omissions numbers kept = (number : ℕ) → Contains kept number
+    ↔ (Contains numbers number × IsKeptFile omissions number)
+
+-- the sources that are kept, of those whose options are linked
+pub kept_linking : (files : List File) (omissions : Omissions) (linking kept : List ℕ)
+    → ((number : ℕ) → Contains linking number ↔ IsLinkingSource files number)
+    → IsAmong omissions linking kept
+    → (number : ℕ) → Contains kept number ↔ (IsKeptSource files omissions number × LinksOptions files number)
+kept_linking files omissions linking kept links are number = (
+  λ there. (
+      let its = (are number).0 there in
+      let is = (links number).0 its.0 in
+      ((is.0, its.1), is.1)),
+  λ is. (are number).1 ((links number).1 (is.0.0, is.1), is.0.1),
+)
+
+pub among_none : (omissions : Omissions) (kept : List ℕ) → kept ≡ [] → IsAmong omissions [] kept
+among_none omissions kept none number = (
+  λ there. (let size = ap length none in absurd (omega (arith, there.1, size))),
+  λ is. absurd (omega (arith, is.0.1)),
+)
+
+module _ (omissions : Omissions) (numbers kept more : List ℕ) (k : ℕ) (within : k < length numbers)
+    (so_far : IsAmong omissions (take k numbers) kept)
+  where
+    abbrev pub one : ℕ
+    one = get_or numbers k 0
+
+    next : take (k + 1) numbers ≡ take k numbers ++ one ∷ []
+    next = take_next numbers k one (slice_get-get_or numbers k 0 within)
+
+    pub among_skip : (IsKeptFile omissions one → ⊥) → IsAmong omissions (take (k + 1) numbers) kept
+    among_skip isnt number = (
+      λ there. (
+          let its = (so_far number).0 there in (
+            subst (λ xs. Contains xs number) (sym next)
+                (Contains-append_left (take k numbers) (one ∷ []) number its.0),
+            its.1,
+          )),
+      λ is. elim (Contains-push_cases (take k numbers) one number (subst (λ xs. Contains xs number) next is.0)) [
+        | inl before ↦ (so_far number).1 (before, is.1)
+        | inr last ↦ absurd (isnt (subst (IsKeptFile omissions) (sym last) is.1))
+      ],
+    )
+
+    pub among_more : IsKeptFile omissions one → more ≡ kept ++ one ∷ [] → IsAmong omissions (take (k + 1) numbers) more
+    among_more kept_one is number = (
+      λ there. elim (Contains-push_cases kept one number (subst (λ xs. Contains xs number) is there)) [
+        | inl before ↦ (
+            let its = (so_far number).0 before in (
+              subst (λ xs. Contains xs number) (sym next)
+                  (Contains-append_left (take k numbers) (one ∷ []) number its.0),
+              its.1,
+            ))
+        | inr last ↦ (
+          subst (λ xs. Contains xs number) (sym next)
+              (subst (Contains (take k numbers ++ one ∷ [])) last (Contains-push (take k numbers) one)),
+          subst (IsKeptFile omissions) last kept_one,
+        )
+      ],
+      λ both. subst (λ xs. Contains xs number) (sym is)
+          (elim (Contains-push_cases (take k numbers) one number (subst (λ xs. Contains xs number) next both.0)) [
+            | inl before ↦ Contains-append_left kept (one ∷ []) number ((so_far number).1 (before, both.1))
+            | inr last ↦ subst (Contains (kept ++ one ∷ [])) last (Contains-push kept one)
+          ]),
+    )
 
 -- ---- the order of all items
 

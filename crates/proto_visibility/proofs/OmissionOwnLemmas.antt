@@ -16,7 +16,7 @@ use Rattle.proto_visibility.specs.Clashes.{Before, Item, IsOwnItem, Excludes, Cl
 use Rattle.proto_visibility.specs.Absences.{IsUnreadBy}
 use Rattle.proto_visibility.specs.Kept.{Omissions, IsKeptFile, AreAllKept, IsCounted, IsTakenBefore, Precedes, IsMet}
 use Rattle.proto_visibility.specs.Kept.{IsOmission, AreOmissions}
-use Rattle.proto_visibility.specs.Kept.IsCounted.{is_source, is_seen}
+use Rattle.proto_visibility.specs.Kept.IsCounted.{is_source, is_reached}
 use Rattle.proto_visibility.specs.Tables.FileItems.{IsItemIn}
 use Rattle.proto_visibility.specs.Tables.Passes.{AreUnreadOmitted, AreOwnClashesOmitted, IsOwnClashOmitted, IsOwnStep}
 use Rattle.proto_visibility.proofs.ClashLemmas.{clash_by, no_clash_by}
@@ -190,13 +190,13 @@ module _ (files : List File) (sources others : List ℕ) (none start passed open
   -- so the same files count
   counted_to : (number : ℕ) → IsCounted files passed number → IsCounted files omissions number
   counted_to number (is_source is) = is_source is
-  counted_to number (is_seen {source = source} is kept sees present) =
-      is_seen is (source_stays source is ∙ kept) sees present
+  counted_to number (is_reached {source = source} is kept reaches present) =
+      is_reached is (source_stays source is ∙ kept) reaches present
 
   counted_from : (number : ℕ) → IsCounted files omissions number → IsCounted files passed number
   counted_from number (is_source is) = is_source is
-  counted_from number (is_seen {source = source} is kept sees present) =
-      is_seen is (sym (source_stays source is) ∙ kept) sees present
+  counted_from number (is_reached {source = source} is kept reaches present) =
+      is_reached is (sym (source_stays source is) ∙ kept) reaches present
 
   source_counts : (number : ℕ) → Contains sources number → IsCounted files omissions number
   source_counts number there = is_source ((are_sources number).0 there)

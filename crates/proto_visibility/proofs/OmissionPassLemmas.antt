@@ -15,7 +15,7 @@ use Rattle.proto_visibility.specs.Clashes.{BeforeBy, Item, IsItemBy}
 use Rattle.proto_visibility.specs.Absences.{IsUnreadBy}
 use Rattle.proto_visibility.specs.Kept.{Omissions, IsKeptFile, AreAllKept, IsCounted, IsTakenBefore, IsMetBy}
 use Rattle.proto_visibility.specs.Kept.{IsOmission, AreOmissions}
-use Rattle.proto_visibility.specs.Kept.IsCounted.{is_source, is_seen}
+use Rattle.proto_visibility.specs.Kept.IsCounted.{is_source, is_reached}
 use Rattle.proto_visibility.specs.Tables.ClashTables.{AreInPlace, AreInPlaceBy, index_in}
 use Rattle.proto_visibility.specs.Tables.Passes.{AreUnreadOmitted, IsOutByClash, IsClashOmission, AreClashesOmitted}
 use Rattle.proto_visibility.specs.Tables.Passes.{ArePassed, IsOpen}
@@ -245,13 +245,13 @@ module _ {S : Type 0} (files : List File) (sources others : List ℕ) (items mor
     where
       to : IsCounted files passed number → IsCounted files omissions number
       to (is_source is) = is_source is
-      to (is_seen {source = source} is kept sees present) =
-          is_seen is ((source_kept source is).0 kept) sees present
+      to (is_reached {source = source} is kept reaches present) =
+          is_reached is ((source_kept source is).0 kept) reaches present
 
       from : IsCounted files omissions number → IsCounted files passed number
       from (is_source is) = is_source is
-      from (is_seen {source = source} is kept sees present) =
-          is_seen is ((source_kept source is).1 kept) sees present
+      from (is_reached {source = source} is kept reaches present) =
+          is_reached is ((source_kept source is).1 kept) reaches present
 
   all_items : (item : Item) → Contains (items ++ more) item ↔ IsItemBy files (IsCounted files omissions) item
   all_items item = (

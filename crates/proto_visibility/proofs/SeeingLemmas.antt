@@ -5,7 +5,7 @@ use Rattle.std.specs.Option.{option_map}
 use Rattle.std.specs.List.{Contains, list_any, slice_get}
 use Rattle.std.proofs.lemmas.Bool.{cases_lt, cases_Bool, eqb-true, cond-true, cond-false}
 use Rattle.std.proofs.lemmas.Option.{slice_get-get_or, slice_get-map, slice_get_within, get_or_from_slice_get}
-use Rattle.std.proofs.lemmas.List.{length-append, length-map, append_assoc, append-nil, length_push, get_or_push}
+use Rattle.std.proofs.lemmas.List.{length-map, append_assoc, append-nil, length_push, get_or_push}
 use Rattle.std.proofs.lemmas.List.Elements.{All-push, All-contains, All-head, All-tail}
 use Rattle.std.proofs.lemmas.List.Elements.{Contains-append_left, Contains-append_cases, Contains-push, Contains-get_or}
 use Rattle.std.proofs.lemmas.Map.Views.{Contains-from_any}
@@ -13,7 +13,8 @@ use Rattle.proto_visibility.specs.declared.import_table.Steps.{Steps}
 use Rattle.proto_visibility.specs.Sees.{LeadsTo, SeesBy}
 use Rattle.proto_visibility.specs.Sees.LeadsTo.{at_once, through}
 use Rattle.proto_visibility.specs.Sees.SeesBy.{itself, import}
-use Rattle.proto_visibility.specs.Tables.ImportTables.{targets, HasStep, AreWithin, AreRowsBy, IsBegun, IsLedTo}
+use Rattle.proto_visibility.specs.Tables.ImportTables.{targets, HasStep, AreWithin, AreFollowed, AreRowsBy, IsBegun, IsFront}
+use Rattle.proto_visibility.specs.Tables.ImportTables.{IsLedTo}
 use Rattle.proto_visibility.specs.Tables.Rows.{files_at}
 use Rattle.proto_visibility.specs.Tables.Visits.{visit, visit_all}
 
@@ -35,7 +36,7 @@ visit_finds found number = elim (visit_cases found number) [
   | inr old ↦ subst (λ xs. Contains xs number) (sym old.0) old.1
 ]
 
-visit_all_of : (P : ℕ → Type 0) (found : List ℕ) (number : ℕ) → All P found → P number → All P (visit found number)
+pub visit_all_of : (P : ℕ → Type 0) (found : List ℕ) (number : ℕ) → All P found → P number → All P (visit found number)
 visit_all_of P found number each one = elim (visit_cases found number) [
   | inl new ↦ subst (All P) (sym new) (All-push P found number each one)
   | inr old ↦ subst (All P) (sym old.0) each
@@ -48,7 +49,7 @@ visit_adds found number = elim (visit_cases found number) [
   | inr old ↦ ([], old.0 ∙ sym (append-nil found))
 ]
 
-visits_add : (found numbers : List ℕ) → (more : List ℕ) × (visit_all found numbers ≡ found ++ more)
+pub visits_add : (found numbers : List ℕ) → (more : List ℕ) × (visit_all found numbers ≡ found ++ more)
 visits_add found [] = ([], sym (append-nil found))
 visits_add found (number ∷ numbers) =
     let one = visit_adds found number in
@@ -92,20 +93,7 @@ visits_stay found numbers k h =
     let added = visits_add found numbers in
     ap (λ xs. slice_get xs k) added.1 ∙ slice_get_prefix found added.0 k h
 
-visits_grow : (found numbers : List ℕ) → length found ≤ length (visit_all found numbers)
-visits_grow found numbers =
-    let added = visits_add found numbers in
-    let size = ap length added.1 ∙ length-append found added.0 in omega arith
-
 -- ---- the search
-
--- what is found from these files, once the public steps of so many of those found were followed
-pub record Reaches (table : List Steps) (starts : List ℕ) (done : ℕ) (numbers : List ℕ) : Type 0 where
-  pub sound : All (IsLedTo (HasStep table) starts) numbers
-  pub kept : (number : ℕ) → Contains starts number → Contains numbers number
-  pub closed : (k number other : ℕ) → k < done → slice_get numbers k ≡ Some number → HasStep table number true other
-      → Contains numbers other
-  pub behind : done ≤ length numbers
 
 one_step : (table : List Steps) (file : ℕ) (steps : Steps) → slice_get table file ≡ Some steps
     → (publicly : Bool) (other : ℕ) → HasStep table file publicly other → Contains (targets steps publicly) other
@@ -119,71 +107,94 @@ each_step : (table : List Steps) (file : ℕ) (steps : Steps) → slice_get tabl
 each_step table file steps stands publicly k d h =
     record { steps = steps; stands = stands; listed = Contains-get_or (targets steps publicly) k d h }
 
+-- a file has just these steps of a kind
+pub steps_listed : (table : List Steps) (file : ℕ) (steps : Steps) → slice_get table file ≡ Some steps
+    → (publicly : Bool) (other : ℕ) → HasStep table file publicly other ↔ Contains (targets steps publicly) other
+steps_listed table file steps stands publicly other = (
+  one_step table file steps stands publicly other,
+  λ there. record { steps = steps; stands = stands; listed = there },
+)
+
 All-implies : {X : Type 0} (P Q : X → Type 0) → ((x : X) → P x → Q x) → (xs : List X) → All P xs → All Q xs
 All-implies P Q f xs each k d h = f (get_or xs k d) (each k d h)
 
-leads_more : {I : ℕ → Bool → ℕ → Type 0} {a b c : ℕ} → LeadsTo I a b → I b true c → LeadsTo I a c
+pub leads_more : {I : ℕ → Bool → ℕ → Type 0} {a b c : ℕ} → LeadsTo I a b → I b true c → LeadsTo I a c
 leads_more at_once step = through step at_once
 leads_more (through first rest) step = through first (leads_more rest step)
 
-pub reaches_first : (table : List Steps) (starts : List ℕ) → Reaches table starts 0 starts
-reaches_first table starts = record {
-  sound = λ k d h. (get_or starts k d, Contains-get_or starts k d h, at_once);
-  kept = λ number there. there;
-  closed = λ k number other h. absurd (omega (arith, h));
-  behind = omega arith;
-}
+pub leads_on : {I : ℕ → Bool → ℕ → Type 0} {a b c : ℕ} → LeadsTo I a b → LeadsTo I b c → LeadsTo I a c
+leads_on at_once rest = rest
+leads_on (through first more) rest = through first (leads_on more rest)
 
-pub reaches_more : (table : List Steps) (starts : List ℕ) (done : ℕ) (numbers : List ℕ) (next : ℕ) (steps : Steps)
-    → Reaches table starts done numbers → slice_get numbers done ≡ Some next → slice_get table next ≡ Some steps
-    → Reaches table starts (done + 1) (visit_all numbers steps.public.items)
-reaches_more table starts done numbers next steps so_far is stands =
-    let within : done < length numbers = slice_get_within numbers done next is in
-    let seen : IsLedTo (HasStep table) starts next =
-    subst (IsLedTo (HasStep table) starts) (get_or_from_slice_get numbers done next next is)
-    (so_far.sound done next within) in
-    let grown = visits_grow numbers steps.public.items in
-    record {
-      sound = visits_of (IsLedTo (HasStep table) starts) numbers steps.public.items so_far.sound
-          (All-implies (HasStep table next true) (IsLedTo (HasStep table) starts)
-          (λ other step. (seen.0, seen.1, leads_more seen.2 step)) steps.public.items
-          (each_step table next steps stands true));
-      kept = λ number there. visits_keep numbers steps.public.items number (so_far.kept number there);
-      closed = λ k number other h here step.
-          let there : slice_get numbers k ≡ Some number =
-          sym (visits_stay numbers steps.public.items k (omega arith)) ∙ here in
-          elim (cases_lt k done) [
-            | inl before ↦ visits_keep numbers steps.public.items other (so_far.closed k number other before there step)
-            | inr last ↦ (
-                let at : k ≡ done = omega arith in
-                let same : Some next ≡ Some number = sym is ∙ (ap (slice_get numbers) (sym at) ∙ there) in
-                let equal : number ≡ next = cc in
-                visits_find numbers steps.public.items other
-                (one_step table next steps stands true other (subst (λ n. HasStep table n true other) equal step)))
-          ];
-      behind = omega arith;
-    }
+module _ (I : ℕ → Bool → ℕ → Type 0) where
+  -- what is found from these files, once the public steps of so many of those found were followed
+  pub record Follows (starts : List ℕ) (done : ℕ) (numbers : List ℕ) : Type 0 where
+    pub sound : All (IsLedTo I starts) numbers
+    pub front : IsFront starts numbers
+    pub closed : AreFollowed I numbers done
 
-module _ (table : List Steps) (numbers : List ℕ)
-    (closed : (number other : ℕ) → Contains numbers number → HasStep table number true other → Contains numbers other)
-  where
-    leads_within : {number other : ℕ} → LeadsTo (HasStep table) number other → Contains numbers number
-        → Contains numbers other
+  pub follows_first : (starts : List ℕ) (from : ℕ) → AreFollowed I starts from → Follows starts from starts
+  follows_first starts from followed = record {
+    sound = λ k d h. (get_or starts k d, Contains-get_or starts k d h, at_once);
+    front = ([], sym (append-nil starts));
+    closed = followed;
+  }
+
+  pub follows_more : (starts : List ℕ) (done : ℕ) (numbers : List ℕ) (next : ℕ) (steps : List ℕ)
+      → Follows starts done numbers → slice_get numbers done ≡ Some next
+      → ((other : ℕ) → I next true other ↔ Contains steps other)
+      → Follows starts (done + 1) (visit_all numbers steps)
+  follows_more starts done numbers next steps so_far is listed =
+      let within : done < length numbers = slice_get_within numbers done next is in
+      let seen : IsLedTo I starts next =
+      subst (IsLedTo I starts) (get_or_from_slice_get numbers done next next is) (so_far.sound done next within) in
+      let added = visits_add numbers steps in
+      record {
+        sound = visits_of (IsLedTo I starts) numbers steps so_far.sound
+            (λ k d h. (seen.0, seen.1, leads_more seen.2 ((listed (get_or steps k d)).1 (Contains-get_or steps k d h))));
+        front = (
+          so_far.front.0 ++ added.0,
+          added.1 ∙ (ap (λ xs. xs ++ added.0) so_far.front.1 ∙ append_assoc starts so_far.front.0 added.0),
+        );
+        closed = λ k number other h here step.
+            let there : slice_get numbers k ≡ Some number =
+            sym (visits_stay numbers steps k (omega arith)) ∙ here in
+            elim (cases_lt k done) [
+              | inl before ↦ visits_keep numbers steps other (so_far.closed k number other before there step)
+              | inr last ↦ (
+                  let at : k ≡ done = omega arith in
+                  let same : Some next ≡ Some number = sym is ∙ (ap (slice_get numbers) (sym at) ∙ there) in
+                  let equal : number ≡ next = cc in
+                  visits_find numbers steps other ((listed other).0 (subst (λ n. I n true other) equal step)))
+            ];
+      }
+
+  module _ (numbers : List ℕ)
+      (closed : (number other : ℕ) → Contains numbers number → I number true other → Contains numbers other) where
+    pub leads_within : {number other : ℕ} → LeadsTo I number other → Contains numbers number → Contains numbers other
     leads_within at_once there = there
     leads_within (through {file = a} {next = b} step rest) there = leads_within rest (closed a b there step)
 
-pub reaches_all : (table : List Steps) (starts : List ℕ) (done : ℕ) (numbers : List ℕ)
-    → Reaches table starts done numbers → length numbers ≤ done
-    → (other : ℕ) → Contains numbers other ↔ IsLedTo (HasStep table) starts other
-reaches_all table starts done numbers reached all other = (
-  λ there. All-contains (IsLedTo (HasStep table) starts) numbers other reached.sound there,
-  λ led. leads_within table numbers step_within led.2 (reached.kept led.0 led.1),
-)
-  where
-    step_within : (number next : ℕ) → Contains numbers number → HasStep table number true next → Contains numbers next
-    step_within number next there step =
-        reached.closed there.0 number next (omega (arith, there.1))
-        (slice_get-get_or numbers there.0 number there.1 ∙ ap Some there.2) step
+  pub step_within : (numbers : List ℕ) (done : ℕ) → AreFollowed I numbers done → length numbers ≤ done
+      → (number next : ℕ) → Contains numbers number → I number true next → Contains numbers next
+  step_within numbers done closed all number next there step =
+      closed there.0 number next (omega (arith, there.1))
+      (slice_get-get_or numbers there.0 number there.1 ∙ ap Some there.2) step
+
+  pub follows_all : (starts : List ℕ) (done : ℕ) (numbers : List ℕ) → Follows starts done numbers
+      → length numbers ≤ done → (other : ℕ) → Contains numbers other ↔ IsLedTo I starts other
+  follows_all starts done numbers reached all other = (
+    λ there. All-contains (IsLedTo I starts) numbers other reached.sound there,
+    λ led. leads_within numbers (step_within numbers done reached.closed all) led.2
+        (subst (λ xs. Contains xs led.0) (sym reached.front.1)
+        (Contains-append_left starts reached.front.0 led.0 led.1)),
+  )
+
+-- files are visited in two parts
+pub visits_append : (found numbers more : List ℕ)
+    → visit_all found (numbers ++ more) ≡ visit_all (visit_all found numbers) more
+visits_append found [] more = refl
+visits_append found (number ∷ numbers) more = visits_append (visit found number) numbers more
 
 -- ---- where a search begins
 

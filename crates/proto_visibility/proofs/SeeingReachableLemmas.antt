@@ -1,28 +1,25 @@
 -- Which files are reachable, by one search from all sources.
 use Rattle.std.proofs.Common.{◌≡◌, ◌↔◌, ◌⊎◌, inl, inr, ℕ, ◌+◌, ◌<◌, ◌≤◌, Bool, true, false, List, [], ◌∷◌, ◌++◌, length}
 use Rattle.std.proofs.Common.{Option, Some, None, not, ◌&&◌, cond, eqb, get_or, take, refl, ap, sym, ◌∙◌, subst, arith}
-use Rattle.std.specs.List.{AllByRecursion, Contains, IsDistinct, filter, list_any, slice_get}
+use Rattle.std.specs.List.{AllByRecursion, Contains, IsDistinct, filter, slice_get}
 use Rattle.std.specs.List.Sorted.{IsStrictlyIncreasing}
-use Rattle.std.proofs.lemmas.Bool.{and_parts, cases_lt, cases_Bool, eqb-true, false≢true, not-true}
+use Rattle.std.proofs.lemmas.Bool.{and_parts, cases_lt, false≢true, not-true}
 use Rattle.std.proofs.lemmas.Option.{slice_get_within, same_Some}
 use Rattle.std.proofs.lemmas.List.{append-nil, get_or_default}
-use Rattle.std.proofs.lemmas.List.Elements.{Contains-get_or, Contains-append_left, Contains-push, Contains-push_cases}
+use Rattle.std.proofs.lemmas.List.Elements.{Contains-get_or}
 use Rattle.std.proofs.lemmas.List.Elements.{filter_more}
-use Rattle.std.proofs.lemmas.Cmp.{nat_eq_equiv}
-use Rattle.std.proofs.lemmas.Map.Keys.{IsDistinct-push}
-use Rattle.std.proofs.lemmas.Map.Views.{Contains-from_any}
 use Rattle.basics.proofs.ElementLemmas.{contained, from_contained, from_filter, in_filter}
 use Rattle.proto_visibility.specs.Files.{File, Imports, IsPresent, IsSource}
-use Rattle.proto_visibility.specs.Sees.{LeadsTo, Sees, IsReachable}
+use Rattle.proto_visibility.specs.Sees.{LeadsTo, Sees}
+use Rattle.proto_visibility.specs.Reaches.{IsReachable}
 use Rattle.proto_visibility.specs.Sees.LeadsTo.{at_once, through}
 use Rattle.proto_visibility.specs.Sees.SeesBy.{itself, import}
-use Rattle.proto_visibility.specs.Sees.IsReachable.{seen}
+use Rattle.proto_visibility.specs.Reaches.IsReachable.{reached}
 use Rattle.proto_visibility.specs.Absences.{IsUnread, Broken, NoneBroken}
 use Rattle.proto_visibility.specs.declared.import_table.Steps.{Steps}
-use Rattle.proto_visibility.specs.Tables.ImportTables.{HasStep, IsTableOf, IsBegun, IsLedTo, IsBegunBy}
+use Rattle.proto_visibility.specs.Tables.ImportTables.{IsBegun, IsBegunBy}
 use Rattle.proto_visibility.specs.Tables.ImportTables.{is_present, is_present_at}
 use Rattle.proto_visibility.proofs.RowRisingLemmas.{not_falling}
-use Rattle.proto_visibility.proofs.SeeingLemmas.{sees_by, sees_begun, begun_of}
 
 -- ---- what is seen is there
 
@@ -40,7 +37,7 @@ seen_within itself h = h
 seen_within (import step rest) h = leads_inside rest (imported_within step)
 
 pub reachable_within : (files : List File) (number : ℕ) → IsReachable files number → number < length files
-reachable_within files number (seen is sees present) = slice_get_within files number present.file present.numbered
+reachable_within files number (reached is reaches present) = slice_get_within files number present.file present.numbered
 
 -- a file of a row is one of the files
 pub row_at : (files : List File) (row items : List ℕ) (k : ℕ)
@@ -57,18 +54,18 @@ reachable_at files row items k is_reachable are h =
 
 -- ---- what isn't left out
 
-present_at : (files : List File) (number : ℕ) → is_present_at files number ≡ true → IsPresent files number
+pub present_at : (files : List File) (number : ℕ) → is_present_at files number ≡ true → IsPresent files number
 present_at files number is = by (slice_get files number) refl is
   where
     by : (o : Option File) → slice_get files number ≡ o → is_present o ≡ true → IsPresent files number
     by None none is = absurd (false≢true is)
     by (Some file) some is = record { file = file; numbered = some; present = not-true file.is_left_out is }
 
-at_present : (files : List File) (number : ℕ) → IsPresent files number → is_present_at files number ≡ true
+pub at_present : (files : List File) (number : ℕ) → IsPresent files number → is_present_at files number ≡ true
 at_present files number of = ap is_present of.numbered ∙ ap not of.present
 
-present_of : {files : List File} {number : ℕ} → IsReachable files number → IsPresent files number
-present_of (seen is sees present) = present
+pub present_of : {files : List File} {number : ℕ} → IsReachable files number → IsPresent files number
+present_of (reached is reaches present) = present
 
 -- ---- sources
 
@@ -95,135 +92,74 @@ no_source_from files number file stands flags is =
     false≢true (sym flags ∙ (ap (λ (f : File). not f.is_included && not f.is_left_out) (sym same)
     ∙ both_false is.file is.source is.present))
 
--- the sources among the first so many files, each once
-pub record AreSourcesUpTo (files : List File) (count : ℕ) (numbers : List ℕ) : Type 0 where
-  pub distinct : IsDistinct eqb numbers
-  pub each : (number : ℕ) → Contains numbers number ↔ ((number < count) × IsSource files number)
-
-no_numbers : IsDistinct eqb []
-unfolding IsDistinct
-no_numbers = tt
-
-pub no_sources : (files : List File) → AreSourcesUpTo files 0 []
-no_sources files = record {
-  distinct = no_numbers;
-  each = λ number. (λ there. absurd (omega (arith, there.1)), λ is. absurd (omega (arith, is.0)));
-}
-
-pub sources_skip : (files : List File) (count : ℕ) (numbers : List ℕ) → (IsSource files count → ⊥)
-    → AreSourcesUpTo files count numbers → AreSourcesUpTo files (count + 1) numbers
-sources_skip files count numbers isnt so_far = record {
-  distinct = so_far.distinct;
-  each = λ number. (
-    λ there. (let is = (so_far.each number).0 there in (omega (arith, is.0), is.1)),
-    λ is. elim (cases_lt number count) [
-      | inl before ↦ (so_far.each number).1 (before, is.1)
-      | inr last ↦ (let here : number ≡ count = omega (arith, is.0) in
-          absurd (isnt (subst (IsSource files) here is.1)))
-    ],
-  );
-}
-
-pub sources_more : (files : List File) (count : ℕ) (numbers : List ℕ) → IsSource files count
-    → AreSourcesUpTo files count numbers → AreSourcesUpTo files (count + 1) (numbers ++ count ∷ [])
-sources_more files count numbers is so_far = record {
-  distinct = IsDistinct-push nat_eq_equiv numbers count so_far.distinct (elim (cases_Bool (list_any (eqb count) numbers)) [
-    | inl there ↦ (let early = ((so_far.each count).0 (Contains-from_any eqb-true count numbers there)).0 in
-        absurd (omega (arith, early)))
-    | inr absent ↦ absent
-  ]);
-  each = λ number. (
-    λ there. elim (Contains-push_cases numbers count number there) [
-      | inl before ↦ (let its = (so_far.each number).0 before in (omega (arith, its.0), its.1))
-      | inr last ↦ (let here : count ≡ number = last in (omega (arith, here), subst (IsSource files) here is))
-    ],
-    λ its. elim (cases_lt number count) [
-      | inl before ↦ Contains-append_left numbers (count ∷ []) number ((so_far.each number).1 (before, its.1))
-      | inr last ↦ (let here : count ≡ number = omega (arith, its.0) in
-          subst (Contains (numbers ++ count ∷ [])) here (Contains-push numbers count))
-    ],
-  );
-}
-
-pub sources_all : (files : List File) (count : ℕ) (numbers : List ℕ) → length files ≤ count
-    → AreSourcesUpTo files count numbers → (number : ℕ) → Contains numbers number ↔ IsSource files number
-sources_all files count numbers all so_far number = (
-  λ there. ((so_far.each number).0 there).1,
-  λ is. (so_far.each number).1 (
-    (let within = slice_get_within files number is.file is.numbered in omega (arith, within, all)),
-    is,
-  ),
-)
-
 -- ---- one search from all files that begin it
 
--- what is found is where the search begins at the first so many files
-abbrev pub HasBegun : (Begins : ℕ → Type 0) → List Steps → (count : ℕ) → (found : List ℕ) → Type 0
-HasBegun Begins table count found = (number : ℕ) → Contains found number ↔ IsBegunBy Begins table count number
+-- what is found is what was found before, and where the search begins at the first so many files
+abbrev pub HasBegun : (Begins : ℕ → Type 0) → List Steps → (count : ℕ) → (before found : List ℕ) → Type 0
+HasBegun Begins table count before found = (number : ℕ) → Contains found number
+    ↔ (Contains before number ⊎ IsBegunBy Begins table count number)
 
-pub begun_none : (Begins : ℕ → Type 0) (table : List Steps) (found : List ℕ) → found ≡ []
-    → HasBegun Begins table 0 found
-begun_none Begins table found empty number =
-    let size = ap length empty in
-    (λ there. absurd (omega (arith, there.1, size)), λ begun. absurd (omega (arith, begun.1)))
+pub begun_none : (Begins : ℕ → Type 0) (table : List Steps) (found : List ℕ) → HasBegun Begins table 0 found found
+begun_none Begins table found number = (
+  λ there. inl there,
+  λ is. elim is [ inl there ↦ there | inr begun ↦ absurd (omega (arith, begun.1)) ],
+)
 
-pub begun_skip : (Begins : ℕ → Type 0) (table : List Steps) (count : ℕ) (found : List ℕ) → (Begins count → ⊥)
-    → HasBegun Begins table count found → HasBegun Begins table (count + 1) found
-begun_skip Begins table count found isnt so_far number = (
-  λ there. (let its = (so_far number).0 there in (its.0, omega (arith, its.1), its.2, its.3)),
-  λ its. elim (cases_lt its.0 count) [
-    | inl before ↦ (so_far number).1 (its.0, before, its.2, its.3)
-    | inr last ↦ (let is : its.0 ≡ count = omega (arith, its.1, last) in absurd (isnt (subst Begins is its.2)))
+pub begun_skip : (Begins : ℕ → Type 0) (table : List Steps) (count : ℕ) (before found : List ℕ) → (Begins count → ⊥)
+    → HasBegun Begins table count before found → HasBegun Begins table (count + 1) before found
+begun_skip Begins table count before found isnt so_far number = (
+  λ there. elim ((so_far number).0 there) [
+    | inl old ↦ inl old
+    | inr its ↦ inr (its.0, omega (arith, its.1), its.2, its.3)
+  ],
+  λ is. elim is [
+    | inl old ↦ (so_far number).1 (inl old)
+    | inr its ↦ elim (cases_lt its.0 count) [
+      | inl earlier ↦ (so_far number).1 (inr (its.0, earlier, its.2, its.3))
+      | inr last ↦ (let same : its.0 ≡ count = omega (arith, its.1, last) in absurd (isnt (subst Begins same its.2)))
+    ]
   ],
 )
 
-pub begun_more : (Begins : ℕ → Type 0) (table : List Steps) (count : ℕ) (found more : List ℕ) → Begins count
+pub begun_more : (Begins : ℕ → Type 0) (table : List Steps) (count : ℕ) (before found more : List ℕ) → Begins count
     → ((other : ℕ) → Contains more other ↔ (Contains found other ⊎ IsBegun table count other))
-    → HasBegun Begins table count found → HasBegun Begins table (count + 1) more
-begun_more Begins table count found more begins adds so_far number = (
+    → HasBegun Begins table count before found → HasBegun Begins table (count + 1) before more
+begun_more Begins table count before found more begins adds so_far number = (
   λ there. elim ((adds number).0 there) [
-    | inl old ↦ (let its = (so_far number).0 old in (its.0, omega (arith, its.1), its.2, its.3))
-    | inr here ↦ (count, omega arith, begins, here)
+    | inl old ↦ elim ((so_far number).0 old) [
+      | inl first ↦ inl first
+      | inr its ↦ inr (its.0, omega (arith, its.1), its.2, its.3)
+    ]
+    | inr here ↦ inr (count, omega arith, begins, here)
   ],
-  λ its. elim (cases_lt its.0 count) [
-    | inl before ↦ (adds number).1 (inl ((so_far number).1 (its.0, before, its.2, its.3)))
-    | inr last ↦ (
-        let is : its.0 ≡ count = omega (arith, its.1, last) in
-        (adds number).1 (inr (subst (λ n. IsBegun table n number) is its.3)))
+  λ is. elim is [
+    | inl first ↦ (adds number).1 (inl ((so_far number).1 (inl first)))
+    | inr its ↦ elim (cases_lt its.0 count) [
+      | inl earlier ↦ (adds number).1 (inl ((so_far number).1 (inr (its.0, earlier, its.2, its.3))))
+      | inr last ↦ (
+          let same : its.0 ≡ count = omega (arith, its.1, last) in
+          (adds number).1 (inr (subst (λ n. IsBegun table n number) same its.3)))
+    ]
   ],
 )
 
 -- beyond the last file none begins
-pub begun_all : (Begins : ℕ → Type 0) (files : List File) (table : List Steps) (count : ℕ) (found : List ℕ)
+pub begun_all : (Begins : ℕ → Type 0) (files : List File) (table : List Steps) (count : ℕ) (before found : List ℕ)
     → ((number : ℕ) → Begins number → number < length files) → length files ≤ count
-    → HasBegun Begins table count found → HasBegun Begins table (length files) found
-begun_all Begins files table count found within all so_far number = (
-  λ there. (let its = (so_far number).0 there in (its.0, within its.0 its.2, its.2, its.3)),
-  λ its. (so_far number).1 (its.0, omega (arith, its.1, all), its.2, its.3),
+    → HasBegun Begins table count before found → HasBegun Begins table (length files) before found
+begun_all Begins files table count before found within all so_far number = (
+  λ there. elim ((so_far number).0 there) [
+    | inl first ↦ inl first
+    | inr its ↦ inr (its.0, within its.0 its.2, its.2, its.3)
+  ],
+  λ is. elim is [
+    | inl first ↦ (so_far number).1 (inl first)
+    | inr its ↦ (so_far number).1 (inr (its.0, omega (arith, its.1, all), its.2, its.3))
+  ],
 )
 
 pub source_within : (files : List File) (number : ℕ) → IsSource files number → number < length files
 source_within files number is = slice_get_within files number is.file is.numbered
-
--- it finds what those see that begin it
-pub found_all : (Begins : ℕ → Type 0) (files : List File) (table : List Steps) (starts numbers : List ℕ)
-    → ((number : ℕ) → Begins number → number < length files)
-    → IsTableOf files table → HasBegun Begins table (length files) starts
-    → ((other : ℕ) → Contains numbers other ↔ IsLedTo (HasStep table) starts other)
-    → (number : ℕ) → Contains numbers number ↔ ((start : ℕ) × Begins start × Sees files start number)
-found_all Begins files table starts numbers within are begun led number = (
-  λ there. (
-      let way = (led number).0 there in
-      let from = (begun way.0).0 way.1 in (
-        from.0,
-        from.2,
-        sees_by (λ a b publicly. (are.steps a b publicly).0)
-            (sees_begun table from.0 way.0 number from.3 way.2),
-      )),
-  λ is. (
-      let its = begun_of table is.0 number (sees_by (λ a b publicly. (are.steps a b publicly).1) is.2) in
-      (led number).1 (its.0, (begun its.0).1 (is.0, within is.0 is.1, is.1, its.1), its.2)),
-)
 
 -- ---- what is left of what is found
 
@@ -271,27 +207,6 @@ filter_next test xs k some more within passes so_far is =
     is ∙ (ap (λ ys. ys ++ get_or xs k 0 ∷ []) so_far
     ∙ sym (filter_more test xs k 0 within
     ∙ ap (λ b. filter test (take k xs) ++ cond b (get_or xs k 0 ∷ []) []) passes))
-
--- those that sources see and that aren't left out are the reachable ones
-pub reachable_all : (files : List File) (table : List Steps) (starts numbers present : List ℕ)
-    → IsTableOf files table → HasBegun (IsSource files) table (length files) starts
-    → ((other : ℕ) → Contains numbers other ↔ IsLedTo (HasStep table) starts other)
-    → present ≡ filter (is_present_at files) numbers
-    → (number : ℕ) → Contains present number ↔ IsReachable files number
-reachable_all files table starts numbers present are begun led are_present number = (
-  λ there. (
-      let its = (filtered (is_present_at files) numbers present are_present number).0 there in
-      let from = (all number).0 its.0 in
-      seen from.1 from.2 (present_at files number its.1)),
-  λ is. (filtered (is_present_at files) numbers present are_present number).1
-      ((all number).1 (begins is), at_present files number (present_of is)),
-)
-  where
-    all : (n : ℕ) → Contains numbers n ↔ ((start : ℕ) × IsSource files start × Sees files start n)
-    all = found_all (IsSource files) files table starts numbers (source_within files) are begun led
-
-    begins : IsReachable files number → (start : ℕ) × IsSource files start × Sees files start number
-    begins (seen {source = source} is sees present) = (source, is, sees)
 
 -- ---- the least file without facts
 

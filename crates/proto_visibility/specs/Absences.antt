@@ -5,7 +5,7 @@ use Rattle.proto_decl.specs.Facts.{Facts}
 use Rattle.proto_decl.specs.declared.imports.Imported.{Imported}
 use Rattle.proto_visibility.specs.declared.files.FilePlace.{FilePlace}
 use Rattle.proto_visibility.specs.Files.{File, HasFacts, IsSource, HasPath, is_public}
-use Rattle.proto_visibility.specs.Sees.{IsReachable}
+use Rattle.proto_visibility.specs.Reaches.{IsReachable}
 use Rattle.proto_visibility.specs.Clashes.{Before}
 
 -- An import that has to be there: any of a source, and the public ones of a reachable included file.

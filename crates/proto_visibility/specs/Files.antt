@@ -8,12 +8,13 @@ use Rattle.proto_decl.specs.declared.imports.Imported.{Imported}
 
 -- A file: its path below its root, its facts unless it couldn't be read or parsed, and whether it is included: linked,
 -- but not indexed. One that is left out has no part in what is linked, but those that import it see it, and the names
--- that it gives are known where it is seen.
+-- that it gives are known where it is seen. Names in its options are linked, or not.
 pub record File : Type 0 where
   pub path : List ℕ
   pub facts : Option Facts
   pub is_included : Bool
   pub is_left_out : Bool
+  pub links_options : Bool
 
 -- the file with this number has these facts
 pub record HasFacts (files : List File) (number : ℕ) (facts : Facts) : Type 0 where

@@ -8,7 +8,7 @@ use Rattle.proto_visibility.specs.declared.clash.Duplicates.TheVariants.{Refuse,
 use Rattle.proto_visibility.specs.declared.omissions.FileOmission.{FileOmission}
 use Rattle.proto_visibility.specs.declared.omissions.FileOmission.TheVariants.{Broken, Duplicate}
 use Rattle.proto_visibility.specs.Files.{File, HaveOwnPaths, IsPresent, IsSource}
-use Rattle.proto_visibility.specs.Sees.{Sees}
+use Rattle.proto_visibility.specs.Reaches.{Reaches}
 use Rattle.proto_visibility.specs.Clashes.{BeforeBy, Item, IsItemBy, ClashBy, NoClashBy}
 use Rattle.proto_visibility.specs.Absences.{IsUnreadBy}
 use Rattle.proto_visibility.specs.Linked.{HaveClearNames}
@@ -21,10 +21,10 @@ Omissions = List (Option FileOmission)
 abbrev pub IsKeptFile : Omissions → (number : ℕ) → Type 0
 IsKeptFile omissions number = slice_get omissions number ≡ Some None
 
--- A file counts if it is a source, or if a source that is kept sees it and it isn't left out before.
+-- A file counts if it is a source, or if a source that is kept reaches it and it isn't left out before.
 pub data IsCounted (files : List File) (omissions : Omissions) : (number : ℕ) → Type 0 where
   is_source : {number : ℕ} → IsSource files number → IsCounted files omissions number
-  is_seen : {source number : ℕ} → IsSource files source → IsKeptFile omissions source → Sees files source number
+  is_reached : {source number : ℕ} → IsSource files source → IsKeptFile omissions source → Reaches files source number
       → IsPresent files number → IsCounted files omissions number
 
 -- The one file is taken before the other: sources come before other files, and each kind in order of numbers. So
@@ -91,7 +91,13 @@ left_of (Some omission ∷ omissions) (x ∷ xs) = x ∷ left_of omissions xs
 -- the file, left out: of what it is there are only the names that it gives where it is seen
 abbrev pub as_left_out : File → File
 as_left_out file =
-    record { path = file.path; facts = file.facts; is_included = file.is_included; is_left_out = true }
+    record {
+      path = file.path;
+      facts = file.facts;
+      is_included = file.is_included;
+      is_left_out = true;
+      links_options = file.links_options;
+    }
 
 -- What is linked of files with faults: those that are kept, and behind them, as such, those that are left out.
 abbrev pub linked_of : Omissions → List File → List File

@@ -12,6 +12,8 @@ use Rattle.proto_visibility.specs.Absences as absences
 use Rattle.proto_visibility.specs.Tables.ImportTables.{AreRowsBy, ArePaths}
 use Rattle.proto_visibility.specs.declared.names.Names.{Names}
 use Rattle.proto_visibility.specs.Tables.GivenNames.{AreNames}
+use Rattle.proto_visibility.specs.Tables.OptionTables.{AreOptionsIn}
+use Rattle.proto_visibility.specs.declared.options.OptionsIn.{OptionsIn}
 
 -- What names are looked up in: the reachable files have facts, and no names clash.
 pub record HaveClearNames (duplicates : Duplicates) (files : List File) : Type 0 where
@@ -35,15 +37,16 @@ pub data MayRefuse (duplicates : Duplicates) (files : List File) : LinkFault →
 
 -- what is kept of files that were checked
 pub record AreChecked {S : Type 0} (duplicates : Duplicates) (files : List File) (paths : HashMap (Bor (List ℕ)) ℕ S)
-    (rows : List (List ℕ)) : Type 0 where
+    (rows : List (List ℕ)) (options : List OptionsIn) : Type 0 where
   pub clear_names : HaveClearNames duplicates files
   pub origins : HaveOrigins files
   pub own_paths : HaveOwnPaths files
   pub paths_are : ArePaths files paths
   pub rows_are : AreRowsBy (Imports files) (length files) rows
+  pub options_are : AreOptionsIn files options
 
 -- what a namespace keeps of its files
 pub record IsLinked {S : Type 0} (duplicates : Duplicates) (files : List File) (paths : HashMap (Bor (List ℕ)) ℕ S)
-    (rows : List (List ℕ)) (names : Names) : Type 0 where
-  pub checked : AreChecked duplicates files paths rows
+    (rows : List (List ℕ)) (options : List OptionsIn) (names : Names) : Type 0 where
+  pub checked : AreChecked duplicates files paths rows options
   pub names_are : AreNames files names

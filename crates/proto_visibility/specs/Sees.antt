@@ -1,6 +1,6 @@
--- Which file sees which (proto3 language guide, "Importing Definitions"), and which files are reachable.
+-- Which file sees which (proto3 language guide, "Importing Definitions").
 use Rattle.std.specs.Prelude.{ℕ, Bool, true, List}
-use Rattle.proto_visibility.specs.Files.{File, IsPresent, IsSource, Imports}
+use Rattle.proto_visibility.specs.Files.{File, Imports}
 
 -- from the one file public imports lead to the other, in any number
 pub data LeadsTo (Imports : ℕ → Bool → ℕ → Type 0) : ℕ → ℕ → Type 0 where
@@ -15,9 +15,3 @@ pub data SeesBy (Imports : ℕ → Bool → ℕ → Type 0) : ℕ → ℕ → Ty
 
 abbrev pub Sees : List File → ℕ → ℕ → Type 0
 Sees files = SeesBy (Imports files)
-
--- A file is reachable if it is a source, or an included file that a source sees, and isn't left out. Of others there
--- are only the names that they give where they are seen.
-pub data IsReachable (files : List File) : ℕ → Type 0 where
-  seen : {source file : ℕ} → IsSource files source → Sees files source file → IsPresent files file
-      → IsReachable files file

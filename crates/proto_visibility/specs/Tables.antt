@@ -3,6 +3,8 @@
 pub mod ImportTables
 pub mod Rows
 pub mod Visits
+-- where sources have the messages of their options
+pub mod OptionTables
 -- the items of a file, and their clashes
 pub mod FileItems
 pub mod ClashTables

@@ -4,7 +4,7 @@ ghost use Rattle.std.specs.Prelude.{ℕ, ◌≡◌, ◌↔◌, ◌++◌, Some, n
 ghost use Rattle.std.specs.List.{flat_map};
 ghost use Rattle.std.specs.Option.{is_none};
 ghost use Rattle.proto_decl.specs.Facts.{ImportsInOrder};
-ghost use Rattle.proto_visibility.specs.Sees.{IsReachable};
+ghost use Rattle.proto_visibility.specs.Reaches.{IsReachable};
 ghost use Rattle.proto_visibility.specs.Absences.{Absent, NoAbsent, AreMissing};
 ghost use Rattle.proto_visibility.specs.Tables.ImportTables.{
   ArePaths,

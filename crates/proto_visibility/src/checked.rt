@@ -3,7 +3,7 @@
 ghost use Rattle.std.specs.Prelude.{ℕ, ◌≡◌, ◌↔◌, IfOk, IfErr, MatchOption, Contains};
 ghost use Rattle.proto_visibility.specs.declared.clash.Duplicates.TheVariants.{Refuse, Keep};
 ghost use Rattle.proto_visibility.specs.Files.{HaveOwnPaths};
-ghost use Rattle.proto_visibility.specs.Sees.{IsReachable};
+ghost use Rattle.proto_visibility.specs.Reaches.{IsReachable};
 ghost use Rattle.proto_visibility.specs.Clashes.{Clash, NoClash};
 ghost use Rattle.proto_visibility.specs.Tables.FileItems.{AreAllPrefixes};
 ghost use Rattle.proto_visibility.specs.Linked.{CanBeLinked, MayRefuse};
@@ -14,6 +14,7 @@ use crate::fault::LinkFault;
 use crate::files::{FilePlace, LinkFile, have_origins};
 use crate::import_table::{numbers_of, paths_of, steps_of};
 use crate::items::{all_items, all_prefixes, own_clash};
+use crate::options::{OptionsIn, options_of};
 use crate::rows::FileRow;
 use crate::seeing::{SeenFiles, first_unread, reachable_files, seen_files};
 use basics::{OwnedText, Sequence};
@@ -30,6 +31,7 @@ pub struct CheckedFiles<'a, 't> {
     pub(crate) duplicates: Duplicates,
     pub(crate) paths: HashMap<&'a str, usize>,
     pub(crate) seen: SeenFiles,
+    pub(crate) options: Vec<OptionsIn>,
 }
 
 impl<'a, 't> Model for CheckedFiles<'a, 't> {
@@ -42,7 +44,7 @@ impl<'a, 't> Model for CheckedFiles<'a, 't> {
     ghost view = { λ checked. checked.files.now };
 
     ghost invariant = { λ checked. AreChecked checked.duplicates checked.files.now checked.paths
-        checked.seen };
+        checked.seen checked.options.items };
 }
 
 impl<'a, 't> CheckedFiles<'a, 't> {
@@ -79,7 +81,8 @@ impl<'a, 't> CheckedFiles<'a, 't> {
     {
         let numbers = numbers_of(alloc, files)?;
         let table = steps_of(alloc, files, &numbers)?;
-        let reachable = reachable_files(alloc, files, table.as_slice())?;
+        let options = options_of(alloc, files, table.as_slice(), &numbers)?;
+        let reachable = reachable_files(alloc, files, table.as_slice(), options.as_slice())?;
         if let Some(number) = first_unread(files, &reachable) {
             return Err(LinkFault::Broken(number));
         }
@@ -98,6 +101,7 @@ impl<'a, 't> CheckedFiles<'a, 't> {
             duplicates,
             paths,
             seen,
+            options,
         })
     }
 }

@@ -7,7 +7,7 @@ ghost use Rattle.std.specs.List.{list_any};
 ghost use Rattle.proto_visibility.specs.declared.clash.Duplicates.{Duplicates};
 ghost use Rattle.proto_visibility.specs.Clashes.{Before, ClashBy, NoClashBy, NoClash, Item};
 ghost use Rattle.proto_visibility.specs.Tables.ClashTables.{AreInPlace, clash_with, index_in};
-ghost use Rattle.proto_visibility.specs.Sees.{IsReachable};
+ghost use Rattle.proto_visibility.specs.Reaches.{IsReachable};
 ghost use Rattle.proto_visibility.specs.Tables.FileItems.{AreAllPrefixes, declared_item};
 ghost use Rattle.proto_visibility.specs.Tables.ClashTables.{AreApart, declarations_of, has_number};
 

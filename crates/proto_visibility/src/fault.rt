@@ -8,7 +8,7 @@ use thiserror::Error;
 /// them is answered.
 #[derive(Clone, Copy, Debug, Drop, PartialEq, Eq, Error)]
 pub enum LinkFault {
-    /// The least number of a file without facts, among the sources and the included files that some source sees.
+    /// The least number of a file without facts, among the sources and the included files that some source reaches.
     #[error("file {0} has no facts")]
     Broken(usize),
     /// The places of two declarations, or of a declaration and a component of a package statement, that give one full
@@ -17,7 +17,7 @@ pub enum LinkFault {
     #[error("one full name is given twice, {0} and {1}")]
     Duplicate(FilePlace, FilePlace),
     /// The first import, by its literal's place, of a path that no file has: any import of a source
-    /// counts, and the public ones of an included file that some source sees.
+    /// counts, and the public ones of an included file that some source reaches.
     #[error("an import of a file that isn't there, {0}")]
     MissingImport(FilePlace),
     /// A use that names no type, by the place of the whole use: from its leading dot, or its first component if it

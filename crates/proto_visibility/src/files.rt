@@ -12,7 +12,8 @@ use std::marker::Model;
 
 /// A file to be linked.
 ///
-/// Contracts see its path's bytes, its facts, and whether it is included or left out.
+/// Contracts see its path's bytes, its facts, whether it is included or left out, and whether names in its options are
+/// linked.
 #[derive(Drop)]
 pub struct LinkFile<'a, 't> {
     /// Its path below its root.
@@ -24,6 +25,8 @@ pub struct LinkFile<'a, 't> {
     /// Whether it is left out of what is linked. The names that it gives are known where it is seen, so that no use
     /// takes another one's for it; but nothing names what it declares.
     pub left_out: bool,
+    /// Whether names in its options are linked. If so, and if it is a source, it reaches all that its imports lead to.
+    pub links_options: bool,
 }
 
 impl<'a, 't> Model for LinkFile<'a, 't> {
@@ -37,6 +40,7 @@ impl<'a, 't> Model for LinkFile<'a, 't> {
       facts = option_map (λ facts. facts.now) file.facts;
       is_included = file.included;
       is_left_out = file.left_out;
+      links_options = file.links_options;
     } };
 }
 
@@ -60,6 +64,13 @@ impl LinkFile<'_, '_> {
         ensures { result ≡ (not self.now.is_included && not self.now.is_left_out) }
     {
         !self.included && !self.left_out
+    }
+
+    /// Whether names in its options are linked.
+    pub(crate) fn links_options(&self) -> bool
+        ensures { result ≡ self.now.links_options }
+    {
+        self.links_options
     }
 
     /// Whether it couldn't be read or parsed.

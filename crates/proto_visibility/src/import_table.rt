@@ -180,7 +180,7 @@ fn steps_along(
 
 impl Steps {
     /// None.
-    fn new(alloc: Global) -> Steps
+    pub(crate) fn new(alloc: Global) -> Steps
         ensures public { result.public.items ≡ [] }
         ensures plain { result.plain.items ≡ [] }
     {
@@ -208,7 +208,7 @@ impl Steps {
     }
 
     /// Adds a file, by the kind of its import.
-    fn add(&mut self, kind: ImportKind, number: usize) -> Result<(), AllocError>
+    pub(crate) fn add(&mut self, kind: ImportKind, number: usize) -> Result<(), AllocError>
         ensures public { OnOk result (self.new.public.items ≡ (if is_public kind then self.old.public.items
             ++ number ∷ [] else self.old.public.items)) }
         ensures plain { OnOk result (self.new.plain.items ≡ (if is_public kind then self.old.plain.items else

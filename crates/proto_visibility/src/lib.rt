@@ -1,10 +1,13 @@
 //! Which files see which, what clashes among their names, and who has which name.
 #![tactic(auto)]
 
-// Files to be linked, what they import, missing imports, and which files each one sees.
+// Files to be linked, what they import, missing imports, which files each one sees, and what sources reach.
 mod absent;
+mod backward;
 mod files;
 mod import_table;
+mod options;
+mod reaching;
 mod search;
 mod seeing;
 
@@ -34,8 +37,11 @@ pub use clash::Duplicates;
 pub use fault::LinkFault;
 pub use files::{FilePlace, LinkFile};
 pub use import_table::have_own_paths;
-pub use laws::{kept_files_are_clear, nothing_is_left_out_of_good_files, one_kept};
+pub use laws::{
+    kept_files_are_clear, nothing_is_left_out_of_good_files, one_kept, parts_can_be_linked,
+};
 pub use lookup::{Entity, Role};
 pub use names::ListedNames;
 pub use namespace::Namespace;
 pub use omissions::{FileOmission, left_out};
+pub use options::OptionsIn;

@@ -10,7 +10,8 @@ ghost use Rattle.proto_visibility.specs.Files.{HaveOwnPaths, HaveOrigins, HasFac
 ghost use Rattle.proto_visibility.specs.Files.{IsIncludedAt, IsSourceAt};
 ghost use Rattle.std.specs.Prelude.{Contains};
 ghost use Rattle.std.specs.List.Sorted.{IsStrictlyIncreasing};
-ghost use Rattle.proto_visibility.specs.Sees.{IsReachable, Sees};
+ghost use Rattle.proto_visibility.specs.Sees.{Sees};
+ghost use Rattle.proto_visibility.specs.Reaches.{IsOptionsIn, IsReachable, LinksOptions};
 ghost use Rattle.proto_visibility.specs.Absences.{AreMissing};
 ghost use Rattle.proto_visibility.specs.Linked.{HaveClearNames, CanBeLinked, MayRefuse};
 
@@ -23,13 +24,14 @@ use crate::import_table::{numbers_of, paths_of, steps_of};
 use crate::items::all_prefixes;
 use crate::lookup::{Entity, Role, are_two_declaring, entity_in, giving_in, only_declaring};
 use crate::names::{ListedNames, Names};
+use crate::options::{OptionsIn, options_of};
 use crate::seeing::{SeenFiles, reachable_files, seen_files};
 use proto_decl::FileFacts;
 use std::alloc::{AllocError, Global};
 use std::collections::HashMap;
 use std::marker::Model;
 
-/// Files in which no full name is declared twice: all sources, and the included files that they see,
+/// Files in which no full name is declared twice: all sources, and the included files that they reach,
 /// are one namespace; or each of them is one, if several may give one name.
 ///
 /// Contracts see the list of the files.
@@ -39,6 +41,7 @@ pub struct Namespace<'a, 't> {
     duplicates: Duplicates,
     paths: HashMap<&'a str, usize>,
     seen: SeenFiles,
+    options: Vec<OptionsIn>,
     names: Names,
 }
 
@@ -52,13 +55,13 @@ impl<'a, 't> Model for Namespace<'a, 't> {
     ghost view = { λ namespace. namespace.files.now };
 
     ghost invariant = { λ namespace. IsLinked namespace.duplicates namespace.files.now namespace.paths
-        namespace.seen namespace.names };
+        namespace.seen namespace.options.items namespace.names };
 }
 
 impl<'a, 't> Namespace<'a, 't> {
     /// Links files, no two of which have one path, by their numbers in the list.
     ///
-    /// An included file has an effect only where some source sees it. A weak import counts as a
+    /// An included file has an effect only where some source reaches it. A weak import counts as a
     /// plain one.
     #[tactic(auto, using(crate::proofs::LinkedRefusalRules::refusals))]
     pub fn new(
@@ -88,12 +91,14 @@ impl<'a, 't> Namespace<'a, 't> {
             duplicates,
             paths,
             seen,
+            options,
         } = checked;
         Namespace {
             files,
             duplicates,
             paths,
             seen,
+            options,
             names,
         }
     }
@@ -113,6 +118,7 @@ impl<'a, 't> Namespace<'a, 't> {
         let prefixes = all_prefixes(alloc, files)?;
         have_origins(files);
         let seen = seen_files(alloc, files, table.as_slice())?;
+        let options = options_of(alloc, files, table.as_slice(), &numbers)?;
         let names = Names::of(alloc, files, prefixes.as_slice())?;
         let paths = paths_of(alloc, files, numbers)?;
         Ok(Namespace {
@@ -120,6 +126,7 @@ impl<'a, 't> Namespace<'a, 't> {
             duplicates,
             paths,
             seen,
+            options,
             names,
         })
     }
@@ -132,17 +139,18 @@ impl<'a, 't> Namespace<'a, 't> {
     }
 
     /// The places of the imports that have to be there and name no file, in order: those of sources, and the public
-    /// ones of included files that some source sees.
+    /// ones of included files that some source reaches.
     pub fn missing_imports(&self, alloc: Global) -> Result<Vec<FilePlace>, AllocError>
         ensures { IfOk result (λ places. AreMissing self.now places.items) }
     {
         let numbers = numbers_of(alloc, self.files)?;
         let table = steps_of(alloc, self.files, &numbers)?;
-        let reachable = reachable_files(alloc, self.files, table.as_slice())?;
+        let options = self.options.as_slice();
+        let reachable = reachable_files(alloc, self.files, table.as_slice(), options)?;
         all_absent(alloc, self.files, &self.paths, &reachable)
     }
 
-    /// The numbers of the sources, and of the included files that some source sees, rising. An error means that memory
+    /// The numbers of the sources, and of the included files that some source reaches, rising. An error means that memory
     /// was refused.
     pub fn reachable_files(&self, alloc: Global) -> Result<Vec<usize>, AllocError>
         ensures reachable { IfOk result (λ numbers. (number : ℕ) → Contains numbers.items number
@@ -151,7 +159,8 @@ impl<'a, 't> Namespace<'a, 't> {
     {
         let numbers = numbers_of(alloc, self.files)?;
         let table = steps_of(alloc, self.files, &numbers)?;
-        let reachable = reachable_files(alloc, self.files, table.as_slice())?;
+        let options = self.options.as_slice();
+        let reachable = reachable_files(alloc, self.files, table.as_slice(), options)?;
         Vec::from_slice(alloc, reachable.as_slice())
     }
 
@@ -163,6 +172,15 @@ impl<'a, 't> Namespace<'a, 't> {
         ensures { IsTrue result ↔ Sees self.now file other }
     {
         self.seen.row(file).has(other)
+    }
+
+    /// In which file a source has the messages of its options, whose names in options are linked. Takes no memory.
+    pub fn options_in(&self, source: usize) -> OptionsIn
+        requires { LinksOptions self.now source }
+        ensures { IsOptionsIn self.now source result }
+    {
+        let options = self.options.as_slice();
+        options[source]
     }
 
     /// Some file that a file sees and that gives a name in a role, if there is one. Takes no memory.

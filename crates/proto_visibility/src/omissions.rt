@@ -6,6 +6,7 @@ ghost use Rattle.std.specs.Prelude.{
   ◌<◌,
   ◌+◌,
   ◌↔◌,
+  ◌⊎◌,
   List,
   [],
   None,
@@ -28,6 +29,7 @@ ghost use Rattle.proto_visibility.specs.Kept.{IsTakenBefore};
 ghost use Rattle.proto_visibility.specs.Tables.ClashTables.{AreInPlaceBy, clash_with, index_in};
 ghost use Rattle.proto_visibility.specs.Tables.FileItems.{ArePrefixes, AreAllPrefixes, IsItemIn, package_name_of};
 ghost use Rattle.proto_visibility.specs.Tables.ImportTables.{IsTableOf, IsBegunBy, is_other, is_other_at};
+ghost use Rattle.proto_visibility.specs.Tables.OptionTables.{AreOptionsIn};
 ghost use Rattle.proto_visibility.specs.Tables.Passes.{AreUnreadOmitted, ArePassed, IsKeptSource, IsOpenAt};
 ghost use Rattle.proto_visibility.specs.Tables.Passes.{AreOwnClashesOmitted, IsOwnStep};
 
@@ -35,9 +37,11 @@ use crate::clash::{Duplicates, Item, clash_with};
 use crate::files::{FilePlace, LinkFile};
 use crate::import_table::{Steps, numbers_of, steps_of};
 use crate::items::{all_items, all_prefixes, own_clash};
+use crate::options::{OptionsIn, options_of};
+use crate::reaching::{linking_sources, reach};
 use crate::rows::FileRow;
 use crate::search::Search;
-use crate::seeing::{begin, follow, source_files};
+use crate::seeing::{begin, follow_from, source_files};
 use basics::{OwnedText, Sequence};
 use proto_decl::FullName;
 use std::alloc::{AllocError, Global};
@@ -56,7 +60,7 @@ pub enum FileOmission {
 /// For each file, by its number, why it is left out of a tree with faults; `None` for a file that is kept. No two of
 /// the files have one path.
 ///
-/// Only files that count are left out: sources, and what a source that is kept sees. Sources are taken first, then the
+/// Only files that count are left out: sources, and what a source that is kept reaches. Sources are taken first, then the
 /// other files, each by number.
 pub fn left_out(
     alloc: Global,
@@ -87,7 +91,14 @@ fn left_out_by_file(
     let mut omissions = none_left_out(alloc, files.len())?;
     omit_unread(&mut omissions, files, &sources);
     omit_own_clashes(alloc, &mut omissions, files, prefixes.as_slice(), &sources)?;
-    let others = seen_by_kept(alloc, files, table.as_slice(), omissions.as_slice())?;
+    let options = options_of(alloc, files, table.as_slice(), &numbers)?;
+    let others = reached_by_kept(
+        alloc,
+        files,
+        table.as_slice(),
+        options.as_slice(),
+        omissions.as_slice(),
+    )?;
     omit_unread(&mut omissions, files, &others);
     omit_own_clashes(alloc, &mut omissions, files, prefixes.as_slice(), &others)?;
     Ok(omissions)
@@ -169,7 +180,14 @@ fn left_out_of_all(
     let mut items = all_items(alloc, files, prefixes.as_slice(), &sources)?;
     let mut names = HashMap::new(alloc);
     omit_clashes(&mut omissions, &mut names, items.as_slice(), 0)?;
-    let others = seen_by_kept(alloc, files, table.as_slice(), omissions.as_slice())?;
+    let options = options_of(alloc, files, table.as_slice(), &numbers)?;
+    let others = reached_by_kept(
+        alloc,
+        files,
+        table.as_slice(),
+        options.as_slice(),
+        omissions.as_slice(),
+    )?;
     omit_unread(&mut omissions, files, &others);
     let passed = items.len();
     let mut more = all_items(alloc, files, prefixes.as_slice(), &others)?;
@@ -190,23 +208,48 @@ fn none_left_out(alloc: Global, count: usize) -> Result<Vec<Option<FileOmission>
     Ok(omissions)
 }
 
-/// The other files that sources see which are kept so far.
-fn seen_by_kept(
+/// The other files that sources reach which are kept so far.
+fn reached_by_kept(
     alloc: Global,
     files: &[LinkFile],
     table: &[Steps],
+    options: &[OptionsIn],
     omissions: &[Option<FileOmission>],
 ) -> Result<FileRow, AllocError>
-    requires { IsTableOf files.now table.now }
+    requires own { HaveOwnPaths files.now }
+    requires table { IsTableOf files.now table.now }
+    requires options { AreOptionsIn files.now options.now }
     ensures { IfOk result (λ row. (number : ℕ) → Contains row number
         ↔ (IsCounted files.now omissions.now number × (IsSource files.now number → ⊥))) }
 {
     let mut search = Search::new(alloc, table.len())?;
+    let linking = linking_sources(alloc, files)?;
+    let kept = kept_among(alloc, omissions, linking.as_slice())?;
+    reach(&mut search, table, options, kept.as_slice())?;
     begin_kept(&mut search, files, table, omissions)?;
-    follow(&mut search, table)?;
+    follow_from(&mut search, table, 0)?;
     let others = others_among(alloc, files, search.found())?;
     let row = FileRow::of(alloc, others.as_slice())?;
     Ok(row)
+}
+
+/// Those of these files that are kept so far.
+fn kept_among(
+    alloc: Global,
+    omissions: &[Option<FileOmission>],
+    numbers: &[usize],
+) -> Result<Vec<usize>, AllocError>
+    ensures { IfOk result (λ kept. (number : ℕ) → Contains kept.items number
+        ↔ (Contains numbers.now number × IsKeptFile omissions.now number)) }
+{
+    let mut kept = Vec::new(alloc);
+    for number in numbers {
+        if !is_kept(omissions, *number) {
+            continue;
+        }
+        kept.push(*number)?;
+    }
+    Ok(kept)
 }
 
 /// Finds the sources that are kept so far, and what they import, but not publicly.
@@ -218,10 +261,10 @@ fn begin_kept(
 ) -> Result<(), AllocError>
     requires table { IsTableOf files.now table.now }
     requires files { search.old.files ≡ length table.now }
-    requires none { search.old.numbers ≡ [] }
     ensures files { OnOk result (search.new.files ≡ search.old.files) }
     ensures begun { OnOk result ((number : ℕ) → Contains search.new.numbers number
-        ↔ IsBegunBy (IsKeptSource files.now omissions.now) table.now (length files.now) number) }
+        ↔ (Contains search.old.numbers number
+        ⊎ IsBegunBy (IsKeptSource files.now omissions.now) table.now (length files.now) number)) }
 {
     for (number, file) in files.iter().enumerate() {
         if !file.is_source() {

@@ -4,15 +4,20 @@ ghost use Rattle.std.specs.Prelude.{ℕ, ◌≡◌, ◌<◌, ◌↔◌, ◌⊎�
 ghost use Rattle.std.specs.Prelude.{All};
 ghost use Rattle.std.specs.List.{slice_get, filter};
 ghost use Rattle.proto_visibility.specs.Files.{Imports, IsSource};
-ghost use Rattle.proto_visibility.specs.Sees.{SeesBy, IsReachable};
+ghost use Rattle.proto_visibility.specs.Sees.{SeesBy};
+ghost use Rattle.proto_visibility.specs.Reaches.{IsReachable};
+ghost use Rattle.proto_visibility.specs.Tables.OptionTables.{AreOptionsIn};
+ghost use Rattle.proto_visibility.specs.Files.{HaveOwnPaths};
 ghost use Rattle.proto_visibility.specs.Tables.ImportTables.{HasStep, AreWithin, AreRowsBy, IsTableOf, IsBegun};
-ghost use Rattle.proto_visibility.specs.Tables.ImportTables.{IsLedTo, IsBegunBy, is_present_at};
+ghost use Rattle.proto_visibility.specs.Tables.ImportTables.{AreFollowed, IsFront, IsLedTo, IsBegunBy, is_present_at};
 ghost use Rattle.proto_visibility.specs.Tables.Rows.{files_at};
 ghost use Rattle.proto_visibility.specs.Absences.{Broken, NoneBroken};
 
 use crate::file_order::FileOrder;
 use crate::files::LinkFile;
 use crate::import_table::Steps;
+use crate::options::OptionsIn;
+use crate::reaching::{linking_sources, reach};
 use crate::rows::{FileRow, Runs, SeenRow};
 use crate::search::Search;
 use std::alloc::{AllocError, Global};
@@ -89,7 +94,7 @@ fn search_from(search: &mut Search, table: &[Steps], file: usize) -> Result<(), 
 {
     search.start();
     begin(search, table, file)?;
-    follow(search, table)?;
+    follow_from(search, table, 0)?;
     Ok(())
 }
 
@@ -107,15 +112,21 @@ pub(crate) fn begin(search: &mut Search, table: &[Steps], file: usize) -> Result
     Ok(())
 }
 
-/// Finds what public imports lead to from the files that are found.
-pub(crate) fn follow(search: &mut Search, table: &[Steps]) -> Result<(), AllocError>
+/// Finds what public imports lead to from the files that are found, of which those before an index lead to no others.
+pub(crate) fn follow_from(
+    search: &mut Search,
+    table: &[Steps],
+    from: usize,
+) -> Result<(), AllocError>
     requires within { AreWithin table.now }
     requires files { search.old.files ≡ length table.now }
+    requires followed { AreFollowed (HasStep table.now) search.old.numbers from }
     ensures files { OnOk result (search.new.files ≡ search.old.files) }
+    ensures front { OnOk result (IsFront search.old.numbers search.new.numbers) }
     ensures led { OnOk result ((other : ℕ) → Contains search.new.numbers other ↔ IsLedTo (HasStep table.now)
         search.old.numbers other) }
 {
-    let mut done = 0;
+    let mut done = from;
     while let Some(next) = search.nth(done) {
         search.visit_all(table[next].public.as_slice())?;
         done += 1;
@@ -129,13 +140,18 @@ pub(crate) fn reachable_files(
     alloc: Global,
     files: &[LinkFile],
     table: &[Steps],
+    options: &[OptionsIn],
 ) -> Result<FileRow, AllocError>
-    requires { IsTableOf files.now table.now }
+    requires own { HaveOwnPaths files.now }
+    requires table { IsTableOf files.now table.now }
+    requires options { AreOptionsIn files.now options.now }
     ensures { IfOk result (λ reachable. (number : ℕ) → Contains reachable number ↔ IsReachable files.now number) }
 {
     let mut search = Search::new(alloc, table.len())?;
+    let linking = linking_sources(alloc, files)?;
+    reach(&mut search, table, options, linking.as_slice())?;
     begin_sources(&mut search, files, table)?;
-    follow(&mut search, table)?;
+    follow_from(&mut search, table, 0)?;
     let present = present_among(alloc, files, search.found())?;
     let reachable = FileRow::of(alloc, present.as_slice())?;
     Ok(reachable)
@@ -164,10 +180,9 @@ fn present_among(
 fn begin_sources(search: &mut Search, files: &[LinkFile], table: &[Steps]) -> Result<(), AllocError>
     requires table { IsTableOf files.now table.now }
     requires files { search.old.files ≡ length table.now }
-    requires none { search.old.numbers ≡ [] }
     ensures files { OnOk result (search.new.files ≡ search.old.files) }
-    ensures begun { OnOk result ((number : ℕ) → Contains search.new.numbers number ↔ IsBegunBy (IsSource files.now) table.now
-        (length files.now) number) }
+    ensures begun { OnOk result ((number : ℕ) → Contains search.new.numbers number ↔ (Contains search.old.numbers number
+        ⊎ IsBegunBy (IsSource files.now) table.now (length files.now) number)) }
 {
     for (number, file) in files.iter().enumerate() {
         if !file.is_source() {

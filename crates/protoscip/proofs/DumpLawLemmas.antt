@@ -78,7 +78,8 @@ module _ (reading : OneReading) (accepted : OneIndexingHasNoFault default_choice
       absurd (let same = none dialect bytes listing (fault.Unresolved place) is refused in cc)
   listed_unless_memory dialect bytes listing (fault.Ambiguous place) is refused =
       absurd (let same = none dialect bytes listing (fault.Ambiguous place) is refused in cc)
-  listed_unless_memory dialect bytes listing (fault.OptionGap place) is refused = absurd refused.2
+  listed_unless_memory dialect bytes listing (fault.OptionGap place) is refused =
+      absurd (let same = none dialect bytes listing (fault.OptionGap place) is refused in cc)
   listed_unless_memory dialect bytes listing (fault.Uncertain place behind) is refused = absurd refused.2
   listed_unless_memory dialect bytes listing fault.TooLarge is refused =
       absurd (let same = none dialect bytes listing fault.TooLarge is refused in cc)

@@ -57,6 +57,7 @@ refused_of_build allows settings tree workers (build.Duplicate first second) is 
 refused_of_build allows settings tree workers (build.MissingImport place) is = is
 refused_of_build allows settings tree workers (build.Unresolved place) is = is
 refused_of_build allows settings tree workers (build.Ambiguous place) is = is
+refused_of_build allows settings tree workers (build.OptionGap place) is = is
 
 module _ (dialect : Dialect) (bytes : List ℕ) (settings : Settings) (tree : List TreeFile)
     (set : settings ≡ dump_settings dialect) (read : AreReadIn dialect (dump_tree bytes) tree) where
@@ -218,7 +219,7 @@ module _ (dialect : Dialect) (bytes : List ℕ) (long : max_text_length < length
   long_refused (fault.MissingImport place) is = not_parsed is.1.0 is.1.1
   long_refused (fault.Unresolved place) is = not_parsed is.1.0 is.1.1
   long_refused (fault.Ambiguous place) is = not_parsed is.1.0 is.1.1
-  long_refused (fault.OptionGap place) is = is
+  long_refused (fault.OptionGap place) is = not_parsed is.1.0 is.1.1
   long_refused (fault.Uncertain place behind) is = is
   long_refused fault.TooLarge is = not_parsed is.1.all is.1.read
   long_refused (fault.Write count) is = is
@@ -285,7 +286,7 @@ module _ (dialect : Dialect) (bytes : List ℕ) where
   refused_dumps due (fault.MissingImport place) is = is
   refused_dumps due (fault.Unresolved place) is = is
   refused_dumps due (fault.Ambiguous place) is = is
-  refused_dumps due (fault.OptionGap place) is = absurd is.2
+  refused_dumps due (fault.OptionGap place) is = is
   refused_dumps due (fault.Uncertain place behind) is = absurd is.2
   refused_dumps due fault.TooLarge is = is
   refused_dumps due (fault.Write count) is = absurd is.2
@@ -303,7 +304,7 @@ module _ (dialect : Dialect) (bytes : List ℕ) where
   refused_writer sink out due (fault.MissingImport place) is = refl
   refused_writer sink out due (fault.Unresolved place) is = refl
   refused_writer sink out due (fault.Ambiguous place) is = refl
-  refused_writer sink out due (fault.OptionGap place) is = absurd is.2
+  refused_writer sink out due (fault.OptionGap place) is = refl
   refused_writer sink out due (fault.Uncertain place behind) is = absurd is.2
   refused_writer sink out due fault.TooLarge is = refl
   refused_writer sink out due (fault.Write count) is = absurd is.2
@@ -363,7 +364,9 @@ module _ (dialect : Dialect) (bytes : List ℕ) where
   dump_files (fault.Ambiguous place) is others some =
       more_files (fault.Ambiguous place) is.0 others (one_file is.0 is.1 others some)
       (files_of_build default_choices (dump_settings dialect) is.0 1 (build.Ambiguous place) is.2)
-  dump_files (fault.OptionGap place) is others some = absurd is.2
+  dump_files (fault.OptionGap place) is others some =
+      more_files (fault.OptionGap place) is.0 others (one_file is.0 is.1 others some)
+      (files_of_build default_choices (dump_settings dialect) is.0 1 (build.OptionGap place) is.2)
   dump_files (fault.Uncertain place behind) is others some = absurd is.2
   dump_files fault.TooLarge is others some = tt
   dump_files (fault.Write count) is others some = tt

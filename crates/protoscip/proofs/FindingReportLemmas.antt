@@ -163,7 +163,7 @@ abbrev path_key : List TreeFile → Key → PathKey
 path_key tree key = ((path_of tree key.0.0, key.0.1), key.1)
 
 abbrev no_place : FoundPlace
-no_place = record { path = []; text = []; offset = None; end = None }
+no_place = record { path = []; bytes = []; text = []; offset = None; end = None }
 
 abbrev key_at : FindingKind → (what : ℕ) → FoundPlace → PathKey
 key_at kind.Unresolved what place = ((place.path, unwrap_or place.offset 0), (unwrap_or place.end 0, what))

@@ -14,7 +14,7 @@ use Rattle.proto_visibility.specs.declared.clash.Duplicates.{Duplicates}
 use Rattle.proto_visibility.specs.declared.clash.Duplicates.TheVariants as names
 use Rattle.proto_visibility.specs.Clashes.{Clash}
 use Rattle.proto_visibility.specs.Files.{File, IsPresent, IsSource}
-use Rattle.proto_visibility.specs.Sees.IsReachable.{seen}
+use Rattle.proto_visibility.specs.Reaches.IsReachable.{reached}
 use Rattle.proto_visibility.proofs.ItemAllLemmas.{file_within}
 use Rattle.proto_visibility.specs.Linked.MayRefuse.{clashing, absent_import}
 use Rattle.proto_visibility.specs.Kept.{Omissions, IsOmission, AreOmissions, number_among_all}
@@ -26,7 +26,7 @@ use Rattle.scip_build.specs.FactForms.{form_of}
 use Rattle.scip_build.specs.Builds.{IsBuilt, IsBuildFault}
 use Rattle.scip_build.specs.Kept.{IsLeftFor, IsTold}
 use Rattle.scip_build.specs.Kept.IsTold.{of_file, of_import as told_import, of_use, of_ambiguous, of_uncertain, of_gap}
-use Rattle.scip_build.specs.Documents.{asked_in, asks_in, IsUnresolvedFirst}
+use Rattle.scip_build.specs.Documents.{asks_in}
 use Rattle.scip_build.specs.Files.{ReadFile}
 use Rattle.scip_build.specs.Keeping.{linked_of}
 use Rattle.scip_build.specs.Linking.{linked_file, linked_files, HasFault}
@@ -81,12 +81,6 @@ module _ (allows : Seen → Choice → Type 0) (settings : Settings) (tree : Lis
       → number < length (linked_files parsed) → HasFile tree number
   in_parsed = in_tree allows Refuse settings.dialect (form_of settings) tree
 
-  first_source : (parsed : List ReadFile) (place : FilePlace)
-      → IsUnresolvedFirst (asked_in settings parsed) parsed (linked_files parsed) place
-      → IsSource (linked_files parsed) place.file
-  first_source parsed place (inl first) = first.0.source
-  first_source parsed place (inr gap) = gap.least.holds.source
-
   pub files_of_build : (workers : ℕ) (e : BuildFault) → IsBuildFault allows settings tree workers e
       → HasFilesOf tree (fault_of_build e)
   files_of_build workers build.Spawn is = tt
@@ -108,10 +102,13 @@ module _ (allows : Seen → Choice → Type 0) (settings : Settings) (tree : Lis
       in_parsed parsed place.file are
       (of_import (linked_files parsed) place.file missing.import missing.needed)
   files_of_build workers (build.Unresolved place) (refuse, is) =
-      let source = first_source is.0 place is.2.1 in
+      let source = is.2.1.source in
       in_parsed is.0 place.file is.1 (slice_get_within (linked_files is.0) place.file source.file source.numbered)
   files_of_build workers (build.Ambiguous place) (refuse, is) =
       let source = is.2.1.source in
+      in_parsed is.0 place.file is.1 (slice_get_within (linked_files is.0) place.file source.file source.numbered)
+  files_of_build workers (build.OptionGap place) (refuse, is) =
+      let source = is.2.1.least.holds.source in
       in_parsed is.0 place.file is.1 (slice_get_within (linked_files is.0) place.file source.file source.numbered)
 
 -- ---- the files of what is told
@@ -160,7 +157,7 @@ module _ (allows : Seen → Choice → Type 0) (faulty : Faulty) (dialect : Dial
   needed_at : (number : ℕ) (import : Imported) → IsNeeded linked number import → IsPresent linked number
   needed_at number import (of_source is has listed) =
       record { file = is.file; numbered = is.numbered; present = is.present }
-  needed_at number import (of_included (seen is sees present) has listed public) = present
+  needed_at number import (of_included (reached is reaches present) has listed public) = present
 
   file_of_told : (told : Omission) → IsTold asks all omissions told → HasFilesOf tree (fault_of_omission told)
   file_of_told told (of_file n o at left) = of_left n o told (are.each n (Some o) at) left

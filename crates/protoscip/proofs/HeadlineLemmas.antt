@@ -28,7 +28,7 @@ use Rattle.scip_model.specs.Indexes.{HasDocumentWith, IsAscendingListOf}
 use Rattle.scip_model.specs.Named.{text_of}
 use Rattle.scip_model.specs.Occurs.{Occurs}
 use Rattle.scip_model.specs.Occurs as rule
-use Rattle.scip_model.specs.Options.{OccursInOptions, OccursWith}
+use Rattle.scip_model.specs.Options.{AllLinkOptions, OccursInOptions, OccursWith}
 use Rattle.scip_model.specs.Options.OccursInOptions.{of_option}
 use Rattle.option_link.specs.declared.facts.OptionFacts.{OptionFacts}
 use Rattle.scip_model.proofs.NamedApartLemmas.{AreApart}
@@ -40,7 +40,7 @@ use Rattle.scip_query.specs.References.{is_local, is_of, is_definition, referenc
 use Rattle.scip_query.specs.References.{definitions_at}
 use Rattle.scip_query.specs.Sites.{Site, Numbered}
 use Rattle.scip_build.specs.Builds.{IsBuilt}
-use Rattle.scip_build.specs.Documents.{texts_of}
+use Rattle.scip_build.specs.Documents.{asks_in, texts_of}
 use Rattle.scip_build.specs.Files.{ReadFile}
 use Rattle.scip_build.specs.Keeping.{linked_of}
 use Rattle.scip_build.specs.Linking.{linked_files}
@@ -50,6 +50,7 @@ use Rattle.scip_build.specs.declared.faulty.Faulty.{Faulty}
 use Rattle.scip_build.specs.declared.faulty.Faulty.TheVariants.{Refuse, Skip}
 use Rattle.scip_build.specs.declared.settings.Settings.{Settings}
 use Rattle.scip_build.proofs.KeptTreeLemmas.{linked_is}
+use Rattle.scip_build.proofs.LinkedOptionLemmas.{asks_if}
 use Rattle.scip_build.proofs.LinkingLemmas.{own_paths}
 use Rattle.protoscip.specs.Headline.{IsEntityOf, package_of_entity, entity_of, entity_in_option, defines, OccursAs}
 use Rattle.protoscip.specs.Headline.{by_rule, in_option, IsSite, site_cmp, IsOf}
@@ -57,8 +58,10 @@ use Rattle.protoscip.specs.Headline.{IsSiteOf, IsDefinitionOf}
 use Rattle.protoscip.specs.Headline.{IsAt, Answers, AnswersNames, Headline, linked, ids}
 use Rattle.protoscip.specs.Headline.{asked as asked_of}
 use Rattle.protoscip.specs.NameLaws.{LawsOfNames}
-use Rattle.protoscip.proofs.HeadlineEntityLemmas.{entity_is_as, symbol_is_as, one_entity, own_entity, one_symbol}
-use Rattle.protoscip.proofs.HeadlineLinkedLemmas.{linked_origin, have_origins, good_paths}
+use Rattle.protoscip.proofs.HeadlineEntityLemmas.{LinkedIfAsked, entity_is_as, symbol_is_as, one_entity, own_entity}
+use Rattle.protoscip.proofs.HeadlineEntityLemmas.{one_symbol}
+use Rattle.protoscip.proofs.HeadlineLinkedLemmas.{EachLinksOptions, linked_origin, have_origins, good_paths}
+use Rattle.protoscip.proofs.HeadlineLinkedLemmas.{link_options}
 use Rattle.protoscip.proofs.UseLawLemmas.{component_names, option_component_names}
 use Rattle.protoscip.proofs.HeadlineSiteLemmas.{IsAsked, asked, of_symbol, defining, just}
 
@@ -146,9 +149,16 @@ kept_paths omissions all good number file at =
     let o = linked_origin omissions all number file at in
     subst IsGoodPath o.path (good (origin (linked_files all) omissions number) o.original o.numbered)
 
+kept_links : (omissions : Omissions) (all : List ReadFile) → EachLinksOptions (linked_files all)
+    → EachLinksOptions (linked_files (linked_of omissions all))
+kept_links omissions all links number file at =
+    let o = linked_origin omissions all number file at in
+    sym o.links ∙ links (origin (linked_files all) omissions number) o.original o.numbered
+
 module _ {allows : Seen → Choice → Type 0} {settings : Settings} {tree : List TreeFile} {result : Built}
     (built : IsBuilt allows settings tree result) (apart : AreApart (linked built) (ids built))
-    (good : HaveGoodPaths (linked built)) (are_packages : ArePackages (ids built)) (laws : LawsOfNames) where
+    (good : HaveGoodPaths (linked built)) (are_packages : ArePackages (ids built)) (laws : LawsOfNames)
+    (links : asks_in settings ≡ true → AllLinkOptions (linked built)) where
   Files : List File
   Files = linked built
 
@@ -165,22 +175,27 @@ module _ {allows : Seen → Choice → Type 0} {settings : Settings} {tree : Lis
     present = has.is.present;
   }
 
+  links_of : (source : ℕ) → IsSource (linked built) source → LinkedIfAsked (asked_of built) (linked built) source
+  links_of source is known same = links (asks_if (asks_in settings) built.of_files.parsed known same) source is
+
   of_files : (entity : Entity) (document : Document) (o : Occurrence) → IsOf built entity document o
-      → IsEntityOf (asked_of built) (linked built) (ids built) entity
+      → IsEntityOf (linked built) (ids built) entity
   of_files entity document o is =
-      entity_is_as (asked_of built) (linked built) (ids built) apart.origins laws result.choices settings.encoding
-      is.of_source.source is.of_source.text (source_of is.plain is.of_source) o entity is.defines_it is.occurs
+      entity_is_as (linked built) (ids built) apart.origins laws result.choices settings.encoding is.of_source.source
+      is.of_source.text (asked_of built) (links_of is.of_source.source (source_of is.plain is.of_source))
+      (source_of is.plain is.of_source) o entity is.defines_it is.occurs
 
   -- the text of an entity's symbol
-  symbol_in : (entity : Entity) → IsEntityOf (asked_of built) (linked built) (ids built) entity → List ℕ
-  symbol_in entity of = text_of (package_of_entity (asked_of built) (linked built) (ids built) of) entity
+  symbol_in : (entity : Entity) → IsEntityOf (linked built) (ids built) entity → List ℕ
+  symbol_in entity of = text_of (package_of_entity (linked built) (ids built) of) entity
 
-  symbol_of : (entity : Entity) (of : IsEntityOf (asked_of built) (linked built) (ids built) entity)
+  symbol_of : (entity : Entity) (of : IsEntityOf (linked built) (ids built) entity)
       (document : Document) (o : Occurrence) → IsOf built entity document o → o.symbol ≡ symbol_in entity of
   unfolding symbol_in
   symbol_of entity of document o is =
-      symbol_is_as (asked_of built) (linked built) (ids built) apart good are_packages laws is.of_source.source
-      (source_of is.plain is.of_source) result.choices settings.encoding is.of_source.text o entity is.defines_it
+      symbol_is_as (linked built) (ids built) apart good are_packages laws is.of_source.source (asked_of built)
+      (links_of is.of_source.source (source_of is.plain is.of_source)) (source_of is.plain is.of_source) result.choices
+      settings.encoding is.of_source.text o entity is.defines_it
       is.occurs of
 
   -- a document of the index is one of a source, where the settings place it
@@ -208,11 +223,11 @@ module _ {allows : Seen → Choice → Type 0} {settings : Settings} {tree : Lis
         },
       )
 
-  same_entity : (entity other : Entity) (is : IsEntityOf (asked_of built) (linked built) (ids built) entity)
-      (its : IsEntityOf (asked_of built) (linked built) (ids built) other) → symbol_in entity is ≡ symbol_in other its
+  same_entity : (entity other : Entity) (is : IsEntityOf (linked built) (ids built) entity)
+      (its : IsEntityOf (linked built) (ids built) other) → symbol_in entity is ≡ symbol_in other its
       → entity ≡ other
   unfolding symbol_in
-  same_entity = one_entity (asked_of built) (linked built) (ids built) apart good are_packages laws
+  same_entity = one_entity (linked built) (ids built) apart good are_packages laws
 
   -- occurrences with one symbol are of one entity
   by_symbol : (entity other : Entity) (document another : Document) (o also : Occurrence) → IsOf built entity document o
@@ -224,7 +239,7 @@ module _ {allows : Seen → Choice → Type 0} {settings : Settings} {tree : Lis
       (sym (symbol_of other other_is another also its) ∙ (sym same ∙ symbol_of entity own_is document o is))
 
   each : (site : Site) → IsSite result.index site
-      → (entity : Entity) × IsEntityOf (asked_of built) (linked built) (ids built) entity × IsSiteOf built entity site
+      → (entity : Entity) × IsEntityOf (linked built) (ids built) entity × IsSiteOf built entity site
       × ((other : Entity) → IsSiteOf built other site → other ≡ entity)
   each site there =
       let listed = contained result.index.documents site.place.document site.document there.document_is in
@@ -276,7 +291,7 @@ module _ {allows : Seen → Choice → Type 0} {settings : Settings} {tree : Lis
     is_global subject of entity is =
         let its = of_files entity of.named.document of.occurrence is in
         ap is_local (sym of.symbol ∙ symbol_of entity its of.named.document of.occurrence is)
-        ∙ not_local (package_of_entity (asked_of built) (linked built) (ids built) its) entity
+        ∙ not_local (package_of_entity (linked built) (ids built) its) entity
 
     at_position : (subject : Subject) (of : IsAsked result.index path line column subject) (entity : Entity)
         → IsOf built entity of.named.document of.occurrence → IsAt built path line column entity
@@ -361,9 +376,9 @@ module _ {allows : Seen → Choice → Type 0} {settings : Settings} {tree : Lis
     symbol = λ entity site of is. symbol_of entity of site.document site.occurrence is.1;
     one_to_one = λ entity other is its. (
       same_entity entity other is its,
-      one_symbol (asked_of built) (linked built) (ids built) apart good are_packages laws entity other is its,
+      one_symbol (linked built) (ids built) apart good are_packages laws entity other is its,
     );
-    own = own_entity (asked_of built) (linked built) (ids built) apart good are_packages laws;
+    own = own_entity (linked built) (ids built) apart good are_packages laws;
     role = role;
     references = references;
     definitions = definitions;
@@ -383,6 +398,15 @@ headline allows laws settings tree is_tree are_packages recorded bytes indexed =
     is_tree.good in
     let origins = subst Origins (sym kept.kept) (kept_origins kept.omissions built.all of_all) in
     let good = subst Good (sym kept.kept) (kept_paths kept.omissions built.all good_all) in
+    let Link : List ReadFile → Type 0 = λ rs. EachLinksOptions (linked_files rs) in
+    let links : asks_in settings ≡ true → AllLinkOptions (linked built) = λ asks source is.
+    record {
+      file = is.file;
+      numbered = is.numbered;
+      links = subst Link (sym kept.kept) (kept_links kept.omissions built.all
+          (link_options settings.faulty settings.dialect (form_of settings) allows tree built.all built.read asks))
+          source is.file is.numbered;
+    } in
     let own_linked =
     (kept_are_clear settings.duplicates (linked_files built.all) kept.omissions kept.left_out own_all).0 in
     let Own : List ReadFile → Type 0 = λ rs. HaveOwnPaths (linked_files rs) in
@@ -401,5 +425,5 @@ headline allows laws settings tree is_tree are_packages recorded bytes indexed =
       decodes = indexed.spelled.decodes;
       alone = indexed.spelled.alone;
       built = built;
-      names = answers_names built apart good are laws;
+      names = answers_names built apart good are laws links;
     }

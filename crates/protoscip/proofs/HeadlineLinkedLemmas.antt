@@ -1,5 +1,5 @@
 -- Files that were read are linked with facts of their texts, and under the tree's paths.
-use Rattle.std.proofs.Common.{◌≡◌, ◌∙◌, ℕ, ◌<◌, false, List, length, Some, Result, Ok, Err, ap, sym, subst}
+use Rattle.std.proofs.Common.{◌≡◌, ◌∙◌, ℕ, ◌<◌, false, true, List, length, Some, Result, Ok, Err, ap, sym, subst}
 use Rattle.std.specs.Prelude.{All}
 use Rattle.std.specs.List.{slice_get}
 use Rattle.std.proofs.lemmas.Option.{same_Some, none-some, slice_get_within}
@@ -18,7 +18,7 @@ use Rattle.scip_symbol.specs.Path.{IsGoodPath}
 use Rattle.scip_model.specs.Conditions.{HaveGoodPaths}
 use Rattle.source_tree.specs.Files.{TreeFile}
 use Rattle.scip_build.specs.declared.fault.FileFault.{FileFault}
-use Rattle.scip_build.specs.Parsed.{form_by, AreFactsIn}
+use Rattle.scip_build.specs.Parsed.{asks_options, form_by, AreFactsIn}
 use Rattle.scip_build.specs.Files.{FileContents, ReadFile}
 use Rattle.scip_build.specs.declared.faulty.Faulty.{Faulty}
 use Rattle.scip_build.specs.ParsedFiles.{HasContents, IsParsedFile, AreParsedFiles}
@@ -43,6 +43,10 @@ present_origin omissions all number file at present =
     at_all omissions (linked_files all) number file
     (present_kept (linked_files all) omissions number file
     (subst (λ fs. slice_get fs number ≡ Some file) (linked_is omissions all) at) present)
+
+-- names in the options of each file are linked
+abbrev pub EachLinksOptions : List File → Type 0
+EachLinksOptions files = (number : ℕ) (file : File) → slice_get files number ≡ Some file → file.links_options ≡ true
 
 module _ (faulty : Faulty) (dialect : Dialect) (form : ReadForm) (allows : Seen → Choice → Type 0)
     (tree : List TreeFile) (parsed : List ReadFile)
@@ -101,3 +105,8 @@ module _ (faulty : Faulty) (dialect : Dialect) (form : ReadForm) (allows : Seen 
       let Good : TreeFile → Type 0 = λ f. IsGoodPath f.path in
       let path = ap (λ (f : File). f.path) here.linked ∙ here.is.path in
       subst IsGoodPath (sym path) (All-contains Good tree here.of good (contained tree number here.of here.numbered))
+
+  pub link_options : asks_options dialect form.options ≡ true → EachLinksOptions (linked_files parsed)
+  link_options asks number file at =
+      let here = linked_at number file at in
+      ap (λ (f : File). f.links_options) here.linked ∙ (here.is.links ∙ asks)

@@ -121,6 +121,7 @@ module _ {W : Type 0} (allows : Seen → Choice → Type 0) (settings : Settings
   unbuilt sink out (build.MissingImport place) is = (is, refl)
   unbuilt sink out (build.Unresolved place) is = (is, refl)
   unbuilt sink out (build.Ambiguous place) is = (is, refl)
+  unbuilt sink out (build.OptionGap place) is = (is, refl)
 
   module _ (out : Writer W) (built : Built) (is : IsBuilt allows settings tree built) where
     -- its index isn't written, or cut off

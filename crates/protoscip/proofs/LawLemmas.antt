@@ -32,6 +32,7 @@ fault_of (build.Duplicate first second) = fault.Duplicate first second
 fault_of (build.MissingImport place) = fault.MissingImport place
 fault_of (build.Unresolved place) = fault.Unresolved place
 fault_of (build.Ambiguous place) = fault.Ambiguous place
+fault_of (build.OptionGap place) = fault.OptionGap place
 
 -- the index of the tree has too many bytes, by some choices
 IsLarge : (Seen → Choice → Type 0) → Settings → List TreeFile → Type 0
@@ -64,7 +65,8 @@ split allows settings tree workers (fault.Unresolved place) is named =
     inr (record { because = build.Unresolved place; is = is; named = λ memory. cc; same = refl })
 split allows settings tree workers (fault.Ambiguous place) is named =
     inr (record { because = build.Ambiguous place; is = is; named = λ memory. cc; same = refl })
-split allows settings tree workers (fault.OptionGap place) is named = absurd is
+split allows settings tree workers (fault.OptionGap place) is named =
+    inr (record { because = build.OptionGap place; is = is; named = λ memory. cc; same = refl })
 split allows settings tree workers (fault.Uncertain place behind) is named = absurd is
 split allows settings tree workers fault.TooLarge is named = inl (refl, is)
 split allows settings tree workers (fault.Write count) is named = absurd is
@@ -121,7 +123,9 @@ module _ (allows others : Seen → Choice → Type 0) where
   indexed_has_no_fault none settings tree workers recorded bytes (fault.Ambiguous place) indexed is =
       absurd (none settings tree workers (built_of indexed.index recorded)
       (build.Ambiguous place) indexed.built is (λ same. cc))
-  indexed_has_no_fault none settings tree workers recorded bytes (fault.OptionGap place) indexed is = absurd is
+  indexed_has_no_fault none settings tree workers recorded bytes (fault.OptionGap place) indexed is =
+      absurd (none settings tree workers (built_of indexed.index recorded)
+      (build.OptionGap place) indexed.built is (λ same. cc))
   indexed_has_no_fault none settings tree workers recorded bytes (fault.Uncertain place behind) indexed is = absurd is
   indexed_has_no_fault none settings tree workers recorded bytes fault.TooLarge indexed is = inr refl
   indexed_has_no_fault none settings tree workers recorded bytes (fault.Write count) indexed is = absurd is

@@ -43,6 +43,8 @@ mod LawLemmas
 mod LineLemmas
 -- What a session answers, by where it stops
 mod SessionLemmas
+-- Parts of a tree are shards of its index
+mod ShardLemmas
 -- What is to be said of an index, by what it lacks
 mod ToldLineOmissionLemmas
 -- Why what is told of a tree can't be had

@@ -67,6 +67,7 @@ module _ {R W : Type 0} (manner : Manner) (commands : Reader R) (answers : Write
   unbuilt allows settings tree workers (build.MissingImport place) is untouched = (is, untouched)
   unbuilt allows settings tree workers (build.Unresolved place) is untouched = (is, untouched)
   unbuilt allows settings tree workers (build.Ambiguous place) is untouched = (is, untouched)
+  unbuilt allows settings tree workers (build.OptionGap place) is untouched = (is, untouched)
 
   -- and that index is the one that was built
   module _ (allows : Seen → Choice → Type 0) (settings : Settings) (tree : List TreeFile) (workers : ℕ) (built : Built)

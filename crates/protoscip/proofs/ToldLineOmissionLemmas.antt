@@ -1,6 +1,6 @@
 -- What is to be said of an index, by what it lacks.
 use Rattle.std.proofs.Common.{◌≡◌, ◌∙◌, ◌+◌, ◌-◌, ◌++◌, ℕ, suc, true, false, List, [], ◌∷◌, Option, Some, None}
-use Rattle.std.proofs.Common.{length, map, ◌==◌, ◌&&◌, ap, refl, arith}
+use Rattle.std.proofs.Common.{length, ◌==◌, ◌&&◌, ap, refl, arith}
 use Rattle.std.specs.List.{count_by}
 use Rattle.basics.proofs.TestLemmas.{never_zero as no_items, first_holds}
 use Rattle.proto_parse.specs.dialect.Dialect.{Dialect}
@@ -8,6 +8,7 @@ use Rattle.source_tree.specs.Files.{TreeFile}
 use Rattle.source_tree.specs.Trees.{IsSourceCount}
 use Rattle.scip_build.specs.declared.omission.Omission.{Omission}
 use Rattle.protoscip.specs.ToldLines.{IsTextOfAllOmissions, IsToldText, IsToldTextWith, is_import, is_skipped}
+use Rattle.protoscip.specs.Unread.{PathUnread}
 use Rattle.protoscip.specs.ToldLines.{is_skipped_source, is_use, numbers_line}
 
 -- where all could be read, the text is that of what an index lacks
@@ -22,21 +23,21 @@ all_read explain tree sources told text is =
           (count_by is_import told) (count_by is_use told)) none,
     )
 
-module _ {X : Type 0} (path_of : X → List ℕ) (explain : Option Dialect) (tree : List TreeFile) where
+module _ (explain : Option Dialect) (tree : List TreeFile) where
   -- it lacks nothing
-  pub nothing : (unread : List X) (told : List Omission) → (length unread == 0 && length told == 0) ≡ true
-      → IsTextOfAllOmissions explain tree (map path_of unread) told None
+  pub nothing : (unread : List PathUnread) (told : List Omission) → (length unread == 0 && length told == 0) ≡ true
+      → IsTextOfAllOmissions explain tree unread told None
   nothing [] [] none = refl
   nothing [] (first ∷ others) none = absurd (no_items (length others) none)
   nothing (path ∷ unread) told none =
       absurd (no_items (length unread) (first_holds (suc (length unread) == 0) (length told == 0) none))
 
   -- it lacks something
-  pub something : (unread : List X) (told : List Omission) (text : List ℕ)
+  pub something : (unread : List PathUnread) (told : List Omission) (text : List ℕ)
       → (length unread == 0 && length told == 0) ≡ false
       → ((sources : ℕ) × IsSourceCount tree sources
-      × IsToldTextWith explain tree sources (map path_of unread) told text)
-      → IsTextOfAllOmissions explain tree (map path_of unread) told (Some text)
+      × IsToldTextWith explain tree sources unread told text)
+      → IsTextOfAllOmissions explain tree unread told (Some text)
   something [] [] text some is = absurd cc
   something [] (first ∷ others) text some is =
       (is.0, is.1, (text, all_read explain tree is.0 (first ∷ others) text is.2, refl))

@@ -16,7 +16,6 @@ use Rattle.proto_decl.specs.Laws.IsEntity.{packaged as entity_packaged, declared
 use Rattle.proto_decl.specs.declared.declaration.Declaration.{Declaration}
 use Rattle.proto_decl.specs.declared.uses.Component.{Component}
 use Rattle.proto_decl.specs.declared.uses.Use.{Use}
-use Rattle.proto_options.specs.declared.names.OptionName.{OptionName}
 use Rattle.proto_visibility.specs.declared.lookup.Entity.{Entity as Part}
 use Rattle.proto_visibility.specs.declared.lookup.Entity.TheVariants as link
 use Rattle.proto_visibility.specs.Files.{File, HasFacts, HaveOrigins, IsSource}
@@ -32,9 +31,7 @@ use Rattle.scip_model.specs.Named.{NamesIn, IsNamedAs, declaration_in, home_of_f
 use Rattle.scip_model.specs.Options.{NamesInOption}
 use Rattle.option_link.specs.declared.facts.OptionFacts.{OptionFacts}
 use Rattle.option_link.specs.declared.target.OptionTarget.{OptionTarget}
-use Rattle.option_link.specs.declared.place.DeclaredPlace.{DeclaredPlace}
 use Rattle.option_link.specs.Found.{NamesOuterParts}
-use Rattle.option_link.specs.OptionNames.{NamesParts}
 use Rattle.option_link.proofs.FitLemmas.{has_parts}
 use Rattle.option_link.proofs.PartLemmas.{parts_by}
 use Rattle.protoscip.specs.Headline.{IsComponentInOption}
@@ -184,7 +181,7 @@ module _ (files : List File) (ids : Packages) (source : ℕ) where
         },
       )
 
-  -- so do the components of a name in one of its options that names something in a file that counts
+  -- so do the components of a name in one of its options that names something
   pub option_component_names : EachOptionNameHasParts → HaveOrigins files → (known : List OptionFacts) (text : List ℕ)
       (span : Span) → IsComponentInOption files known source text span
       → (part : Part) × (entity : Entity) × NamesInOption files known ids source text span part entity
@@ -205,7 +202,6 @@ module _ (files : List File) (ids : Packages) (source : ℕ) where
           listed = has.listed;
           target = target;
           is_target = record { name = has.name; at = has.at; names = has.names; parts = are };
-          counts = has.counts;
           index = among.0;
           component_is = at_contained has.name.name.components span among;
           part_is = part.1;

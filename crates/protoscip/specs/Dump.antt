@@ -13,7 +13,7 @@ use Rattle.source_tree.specs.Reading.{kept_bytes}
 use Rattle.streams.specs.Readers.{Reader, known_before, IsReadFault, IsReadThrough, IsUnfailed}
 use Rattle.streams.specs.Writers.{Writer, IsWritten, IsCutOff, IsUntouched}
 use Rattle.proto_visibility.specs.declared.clash.Duplicates.TheVariants as names
-use Rattle.scip_model.specs.Packages.{all_in}
+use Rattle.scip_model.specs.Packages.{Packages, all_in}
 use Rattle.scip_build.specs.AsRead.{AreReadIn}
 use Rattle.scip_build.specs.declared.settings.Settings.{Settings}
 use Rattle.scip_build.specs.declared.faulty.Faulty.TheVariants.{Refuse}
@@ -37,13 +37,16 @@ dump_tree bytes = record { path = source_path; bytes = bytes; text = bytes; is_i
 abbrev pub plain_dialect : Dialect
 plain_dialect = Proto3 custom.Refuse
 
--- its settings: the package without manager, name and version; columns in UTF-8; comments as they are written; its
--- document has the path of the source
+-- the package without manager, name and version
+abbrev pub no_package : Packages
+no_package = all_in (record { manager = []; name = []; version = [] })
+
+-- its settings: that package; columns in UTF-8; comments as they are written; its document has the path of the source
 abbrev pub dump_settings : Dialect → Settings
 dump_settings dialect = record {
   project_root = codes "file:///";
   at = [];
-  «package» = all_in (record { manager = []; name = []; version = [] });
+  «package» = no_package;
   encoding = Utf8;
   dialect = dialect;
   comments = Raw;

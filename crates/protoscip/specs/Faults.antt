@@ -28,6 +28,7 @@ fault_of_build (build.Duplicate first second) = Duplicate first second
 fault_of_build (build.MissingImport place) = MissingImport place
 fault_of_build (build.Unresolved place) = Unresolved place
 fault_of_build (build.Ambiguous place) = Ambiguous place
+fault_of_build (build.OptionGap place) = OptionGap place
 
 -- the fault for which a run would be refused that skips it; for an uncertain use none would be
 abbrev pub fault_of_omission : Omission → Fault

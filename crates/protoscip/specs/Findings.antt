@@ -17,7 +17,7 @@ use Rattle.protoscip.specs.FaultLines.{path_of}
 use Rattle.protoscip.specs.FaultTexts.{name_of}
 use Rattle.protoscip.specs.Faults.{fault_of_omission}
 use Rattle.protoscip.specs.ToldLines.{is_import, is_skipped, is_skipped_source, is_use, left_out}
-use Rattle.protoscip.specs.Unread.{unread_finding}
+use Rattle.protoscip.specs.Unread.{PathUnread, unread_finding}
 use Rattle.protoscip.specs.declared.fault.Fault.{Fault}
 use Rattle.protoscip.specs.declared.fault.Fault.TheVariants.{Lex, Syntax, Duplicate, MissingImport}
 use Rattle.protoscip.specs.declared.fault.Fault.TheVariants.{Unresolved, Ambiguous, OptionGap, Uncertain}
@@ -27,7 +27,13 @@ use Rattle.protoscip.specs.declared.fault.Fault.TheVariants.{Unresolved, Ambiguo
 -- a place of the file with this number, and its end, if that is known
 abbrev pub place_in : List TreeFile → (number : ℕ) → (at end : Option ℕ) → FoundPlace
 place_in tree number at end =
-    record { path = path_of tree number; text = bytes_of tree number; offset = at; end = end }
+    record {
+      path = path_of tree number;
+      bytes = path_of tree number;
+      text = bytes_of tree number;
+      offset = at;
+      end = end;
+    }
 
 abbrev pub place_of_span : List TreeFile → FilePlace → FoundPlace
 place_of_span tree place = place_in tree place.file (Some place.span.start) (Some place.span.end)
@@ -85,7 +91,7 @@ abbrev pub told_findings : List TreeFile → List Omission → List Found
 told_findings tree told = map (told_finding tree) told
 
 -- and before it what couldn't be read below the folders of the run
-abbrev pub all_findings : List TreeFile → (unread : List (List ℕ)) → List Omission → List Found
+abbrev pub all_findings : List TreeFile → (unread : List PathUnread) → List Omission → List Found
 all_findings tree unread told = map unread_finding unread ++ told_findings tree told
 
 -- ---- the findings of a run that is refused
@@ -111,8 +117,11 @@ is_import_at place fault = false
 abbrev pub is_use_at : FilePlace → Fault → Bool
 is_use_at place (Unresolved other) = is_one_place place other
 is_use_at place (Ambiguous other) = is_one_place place other
-is_use_at place (OptionGap other) = is_one_place place other
 is_use_at place fault = false
+
+abbrev pub is_gap_at : FilePlace → Fault → Bool
+is_gap_at place (OptionGap other) = is_one_place place other
+is_gap_at place fault = false
 
 abbrev pub is_uncertain_at : FilePlace → Fault → Bool
 is_uncertain_at place (Uncertain other behind) = is_one_place place other
@@ -126,7 +135,7 @@ tells_same (Duplicate first second) other = leaves_out second.file other
 tells_same (MissingImport place) other = is_import_at place other
 tells_same (Unresolved place) other = is_use_at place other
 tells_same (Ambiguous place) other = is_use_at place other
-tells_same (OptionGap place) other = is_use_at place other
+tells_same (OptionGap place) other = is_gap_at place other
 tells_same (Uncertain place behind) other = is_uncertain_at place other
 tells_same fault other = false
 
@@ -162,5 +171,5 @@ counts_of sources told status = record {
 }
 
 -- what couldn't be read is skipped, too
-abbrev pub counts_with : (sources : ℕ) → (unread : List (List ℕ)) → List Omission → (status : ℕ) → Counts
+abbrev pub counts_with : (sources : ℕ) → (unread : List PathUnread) → List Omission → (status : ℕ) → Counts
 counts_with sources unread told status = record (counts_of sources told status) { skipped = left_out unread told }

@@ -13,12 +13,11 @@ use Rattle.proto_decl.specs.declared.uses.Component.{Component}
 use Rattle.proto_decl.specs.declared.uses.Use.{Use}
 use Rattle.proto_visibility.specs.declared.lookup.Entity.{Entity as Part}
 use Rattle.proto_visibility.specs.Files.{File, HasFacts, IsSource}
-use Rattle.proto_visibility.specs.Sees.{IsReachable}
+use Rattle.proto_visibility.specs.Reaches.{IsReachable}
 use Rattle.proto_options.specs.declared.names.OptionName.{OptionName}
 use Rattle.proto_options.specs.declared.options.FileOption.{FileOption}
 use Rattle.option_link.specs.declared.facts.OptionFacts.{OptionFacts}
 use Rattle.option_link.specs.declared.place.DeclaredPlace.{DeclaredPlace}
-use Rattle.option_link.specs.Counted.{Counts}
 use Rattle.option_link.specs.OptionNames.{NamesPlace}
 use Rattle.index_hooks.specs.declared.choice.Choice.{Choice}
 use Rattle.source_tree.specs.Files.{TreeFile}
@@ -53,28 +52,23 @@ use Rattle.protoscip.specs.Indexes.{built_of, IsIndexed}
 
 -- ---- what is named
 
--- A file counts if some source sees it; and if names in options are linked, so do others whose names are their own.
-abbrev pub CountsWith : (asked : Option (List OptionFacts)) → List File → (number : ℕ) → Type 0
-CountsWith None files number = IsReachable files number
-CountsWith (Some known) files number = Counts files number
-
--- The entities of linked files: each file that counts, its package with those above it, and what it declares.
-pub data IsEntityOf (asked : Option (List OptionFacts)) (files : List File) (ids : Packages) : Entity → Type 0 where
-  of_file : (number : ℕ) {file : File} → CountsWith asked files number → slice_get files number ≡ Some file
-      → IsEntityOf asked files ids (OfFile file.path)
-  of_package : (number : ℕ) {count : ℕ} {facts : Facts} → CountsWith asked files number → HasFacts files number facts
+-- The entities of linked files: each reachable file, its package with those above it, and what it declares.
+pub data IsEntityOf (files : List File) (ids : Packages) : Entity → Type 0 where
+  of_file : (number : ℕ) {file : File} → IsReachable files number → slice_get files number ≡ Some file
+      → IsEntityOf files ids (OfFile file.path)
+  of_package : (number : ℕ) {count : ℕ} {facts : Facts} → IsReachable files number → HasFacts files number facts
       → 0 < count → count ≤ length facts.package_name
-      → IsEntityOf asked files ids (package_at facts count)
-  of_declaration : (number : ℕ) {index : ℕ} {facts : Facts} {declared : Declaration} → CountsWith asked files number
+      → IsEntityOf files ids (package_at facts count)
+  of_declaration : (number : ℕ) {index : ℕ} {facts : Facts} {declared : Declaration} → IsReachable files number
       → HasDeclaration files number index facts declared
-      → IsEntityOf asked files ids (declaration_in (home_of_file files ids number) facts declared)
+      → IsEntityOf files ids (declaration_in (home_of_file files ids number) facts declared)
 
 -- the package of an entity: that of the file which it is, or which declares it, and of a proto package the run's
-abbrev pub package_of_entity : (asked : Option (List OptionFacts)) (files : List File) (ids : Packages)
-    {entity : Entity} → IsEntityOf asked files ids entity → Package
-package_of_entity asked files ids (of_file number counts numbered) = package_of_file files ids number
-package_of_entity asked files ids (of_package number counts has some few) = ids.run
-package_of_entity asked files ids (of_declaration number counts has) = package_of_file files ids number
+abbrev pub package_of_entity : (files : List File) (ids : Packages) {entity : Entity} → IsEntityOf files ids entity
+    → Package
+package_of_entity files ids (of_file number is_reachable numbered) = package_of_file files ids number
+package_of_entity files ids (of_package number is_reachable has some few) = ids.run
+package_of_entity files ids (of_declaration number is_reachable has) = package_of_file files ids number
 
 -- the entity that an occurrence names: the one of the rule by which it occurs
 abbrev pub entity_of : {files : List File} {chosen : Chosen} {ids : Packages} {encoding : Encoding} {source : ℕ}
@@ -115,7 +109,7 @@ pub data OccursAs (asked : Option (List OptionFacts)) (files : List File) (chose
       → (occurs : OccursInOptions files known chosen ids encoding source text occurrence)
       → OccursAs asked files chosen ids encoding source text occurrence (entity_in_option occurs) false
 
--- A component of a name in an option of a file with this text; the name names something in a file that counts.
+-- A component of a name in an option of a file with this text; the name names something.
 pub record IsComponentInOption (files : List File) (known : List OptionFacts) (file : ℕ) (text : List ℕ)
     (span : Span) : Type 0 where
   pub beside : OptionFacts
@@ -126,7 +120,6 @@ pub record IsComponentInOption (files : List File) (known : List OptionFacts) (f
   pub name : OptionName
   pub at : DeclaredPlace
   pub names : NamesPlace files known file text option number name at
-  pub counts : Counts files at.file
   pub component : Contains name.name.components span
 
 -- ---- what is answered
@@ -192,7 +185,7 @@ module _ {allows : Seen → Choice → Type 0} {settings : Settings} {tree : Lis
   Answers IsWanted path line column (Err miss) = (entity : Entity) → IsAt path line column entity → ⊥
 
   -- Each component of a use in a source names an entity, so that it occurs unless what it names isn't kept; if names in
-  -- options are linked, so does each component of one that names something in a file that counts. Each site is one of
+  -- options are linked, so does each component of one that names something. Each site is one of
   -- an entity of the files, and of no other; entities and symbols are one to one, and a declaration's entity is its
   -- own; a site has the definition's role if and only if it defines its entity; and a query answers the occurrences of
   -- the entity asked, or its definitions among them, all of them and nothing else.
@@ -209,18 +202,18 @@ module _ {allows : Seen → Choice → Type 0} {settings : Settings} {tree : Lis
         → (part : Part) × (entity : Entity)
         × NamesInOption linked known ids file text span part entity
     pub each : (site : Site) → IsSite result.index site
-        → (entity : Entity) × IsEntityOf asked linked ids entity × IsSiteOf entity site
+        → (entity : Entity) × IsEntityOf linked ids entity × IsSiteOf entity site
         × ((other : Entity) → IsSiteOf other site → other ≡ entity)
-    pub symbol : (entity : Entity) (site : Site) (is : IsEntityOf asked linked ids entity)
+    pub symbol : (entity : Entity) (site : Site) (is : IsEntityOf linked ids entity)
         → IsSiteOf entity site
-        → site.occurrence.symbol ≡ text_of (package_of_entity asked linked ids is) entity
-    pub one_to_one : (entity other : Entity) (is : IsEntityOf asked linked ids entity)
-        (its : IsEntityOf asked linked ids other)
-        → (text_of (package_of_entity asked linked ids is) entity
-        ≡ text_of (package_of_entity asked linked ids its) other)
+        → site.occurrence.symbol ≡ text_of (package_of_entity linked ids is) entity
+    pub one_to_one : (entity other : Entity) (is : IsEntityOf linked ids entity)
+        (its : IsEntityOf linked ids other)
+        → (text_of (package_of_entity linked ids is) entity
+        ≡ text_of (package_of_entity linked ids its) other)
         ↔ (entity ≡ other)
     pub own : (number index other its : ℕ) (facts more : Facts) (a b : Declaration)
-        → CountsWith asked linked number → CountsWith asked linked other
+        → IsReachable linked number → IsReachable linked other
         → HasDeclaration linked number index facts a
         → HasDeclaration linked other its more b
         → declaration_in (home_of_file linked ids number) facts a

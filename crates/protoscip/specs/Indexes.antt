@@ -62,7 +62,8 @@ IsRefused allows settings tree workers (Unresolved place) =
     IsBuildFault allows settings tree workers (build.Unresolved place)
 IsRefused allows settings tree workers (Ambiguous place) =
     IsBuildFault allows settings tree workers (build.Ambiguous place)
-IsRefused allows settings tree workers (OptionGap place) = ⊥
+IsRefused allows settings tree workers (OptionGap place) =
+    IsBuildFault allows settings tree workers (build.OptionGap place)
 IsRefused allows settings tree workers (Uncertain place behind) = ⊥
 IsRefused allows settings tree workers TooLarge =
     (built : Built) × IsBuilt allows settings tree built × (max_index_len < length (spelling_of built.index))

@@ -30,5 +30,7 @@ pub mod DumpLaws
 -- answers to commands about the index of a tree
 pub mod Sessions
 pub mod Conversing
+-- a tree that is indexed in parts
+pub mod Shards
 -- the headline: the bytes decode to one index, and queries over it are exact
 pub mod Headline

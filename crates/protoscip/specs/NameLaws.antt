@@ -4,13 +4,14 @@ use Rattle.proto_decl.specs.Names.{IsSimple}
 use Rattle.proto_decl.specs.Facts.{Facts, AreOfSomeFile}
 use Rattle.proto_decl.specs.Laws.{AreNamed, AreHeld}
 use Rattle.proto_link.specs.Laws.{OneDeclarationAName}
+use Rattle.option_link.specs.Laws.{TargetsAreReachable}
 use Rattle.scip_symbol.specs.OneEntity.{IsWithoutClash, declarations_of, AreWithoutClash}
 use Rattle.scip_model.specs.Laws.{SymbolsNameOne}
 use Rattle.protoscip.specs.UseLaws.{EachUseHasATarget, EachOptionNameHasParts}
 
 -- Names are identifiers, and what holds a declaration is declared; a full name is that of one declaration, and a
 -- symbol's text that of one entity; each use that names a type has a target, and each component of a name in an option
--- names an entity, if the name names something.
+-- names an entity, if the name names something, which is in a reachable file.
 pub record LawsOfNames : Type 0 where
   pub named : (facts : Facts) → AreOfSomeFile facts → AreNamed facts.package_name facts.declarations
   pub paths : (facts : Facts) → AreOfSomeFile facts → All (λ declaration. declaration.path ≢ []) facts.declarations
@@ -21,3 +22,4 @@ pub record LawsOfNames : Type 0 where
   pub symbols : SymbolsNameOne
   pub targets : EachUseHasATarget
   pub in_options : EachOptionNameHasParts
+  pub reachable : TargetsAreReachable

@@ -12,7 +12,7 @@ use Rattle.scip_build.specs.declared.omission.Omission.TheVariants as omitted
 use Rattle.protoscip.specs.Explanations.{IsExplained}
 use Rattle.protoscip.specs.FaultLines.{line_with}
 use Rattle.protoscip.specs.Faults.{fault_of_omission}
-use Rattle.protoscip.specs.Unread.{unread_lines}
+use Rattle.protoscip.specs.Unread.{PathUnread, unread_lines}
 use Rattle.protoscip.specs.declared.fault.Fault.{Fault}
 
 -- ---- a line for each
@@ -93,24 +93,24 @@ IsTextOfOmissions explain tree (first ∷ others) text =
 -- ---- with what couldn't be read
 
 -- how many are left out, with these
-abbrev pub left_out : (unread : List (List ℕ)) → List Omission → ℕ
+abbrev pub left_out : (unread : List PathUnread) → List Omission → ℕ
 left_out unread told = length unread + count_by is_skipped told
 
 -- the numbers: what couldn't be read is skipped
-abbrev pub counts_line_with : (sources : ℕ) → (unread : List (List ℕ)) → List Omission → List ℕ
+abbrev pub counts_line_with : (sources : ℕ) → (unread : List PathUnread) → List Omission → List ℕ
 counts_line_with sources unread told =
     numbers_line (sources - count_by (is_skipped_source sources) told) (left_out unread told)
     (count_by is_import told) (count_by is_use told)
 
 -- the lines of what couldn't be read, then the others, and then the numbers
-abbrev pub IsToldTextWith : (explain : Option Dialect) → List TreeFile → (sources : ℕ) → (unread : List (List ℕ))
+abbrev pub IsToldTextWith : (explain : Option Dialect) → List TreeFile → (sources : ℕ) → (unread : List PathUnread)
     → List Omission → (text : List ℕ) → Type 0
 IsToldTextWith explain tree sources unread told text =
     (lines : List ℕ) × AreLines explain tree told lines
     × (text ≡ unread_lines explain unread ++ (lines ++ counts_line_with sources unread told))
 
 -- what is reported of an index that lacks this: nothing if nothing is lacking, else all of it
-abbrev pub IsTextOfAllOmissions : (explain : Option Dialect) → List TreeFile → (unread : List (List ℕ))
+abbrev pub IsTextOfAllOmissions : (explain : Option Dialect) → List TreeFile → (unread : List PathUnread)
     → List Omission → Option (List ℕ) → Type 0
 IsTextOfAllOmissions explain tree [] told text = IsTextOfOmissions explain tree told text
 IsTextOfAllOmissions explain tree (first ∷ others) told text =

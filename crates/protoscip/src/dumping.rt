@@ -14,6 +14,7 @@ ghost use Rattle.protoscip.specs.Dump.{
   IsRefusal,
   IsTreeOfFault,
   LeavesReader,
+  no_package,
   plain_dialect,
 };
 ghost use Rattle.protoscip.specs.FaultLines.{HasFilesOf};
@@ -76,15 +77,22 @@ pub fn dump_tree(alloc: Global, bytes: Vec<u8>) -> Result<Tree, AllocError>
     }
 }
 
-/// The settings of a dump.
-pub(crate) fn dump_settings(alloc: Global, dialect: Dialect) -> Result<Settings, AllocError>
-    ensures { IfOk result (λ settings. settings ≡ dump_settings dialect) }
+/// The package without manager, name and version. Takes no memory.
+pub(crate) fn no_package(alloc: Global) -> FilePackages
+    ensures { result ≡ no_package }
 {
     let parts = [String::new(alloc), String::new(alloc), String::new(alloc)];
+    FilePackages::of_run(alloc, PackageId::new(parts).unwrap())
+}
+
+/// The settings of a dump.
+fn dump_settings(alloc: Global, dialect: Dialect) -> Result<Settings, AllocError>
+    ensures { IfOk result (λ settings. settings ≡ dump_settings dialect) }
+{
     Ok(Settings {
         project_root: OwnedText::copy_of(alloc, "file:///")?,
         at: OwnedText::new(alloc),
-        package: FilePackages::of_run(alloc, PackageId::new(parts).unwrap()),
+        package: no_package(alloc),
         encoding: Encoding::Utf8,
         dialect,
         comments: CommentForm::Raw,

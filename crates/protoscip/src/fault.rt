@@ -25,7 +25,7 @@ pub enum Fault {
     #[error("memory ran out")]
     Memory,
     /// The number of a file, and why its bytes are no text, or a text without a lexing. It is the first source that
-    /// can't be read; if all can, the first included file that some source sees and that can't.
+    /// can't be read; if all can, the first included file that some source reaches and that can't.
     #[error("in file {0}: {1}")]
     Lex(usize, LexFault),
     /// The number of that file, and why the tokens of its text derive no tree.
@@ -37,19 +37,18 @@ pub enum Fault {
     #[error("one full name is given twice, {0} and {1}")]
     Duplicate(FilePlace, FilePlace),
     /// The first import of a path that no file has, by its literal's place: any import of a source counts, and the
-    /// public ones of an included file that some source sees.
+    /// public ones of an included file that some source reaches.
     #[error("an import of a file that isn't there, {0}")]
     MissingImport(FilePlace),
-    /// The first use that names no type, of the first source that has one, by the place of the whole use. If each names
-    /// one, and names in options are linked, the first option without a target, by the place of the name that has none.
+    /// The first use that names no type, of the first source that has one, by the place of the whole use.
     #[error("a use that names no type, {0}")]
     Unresolved(FilePlace),
     /// The same, if it names no type since several of the files declare it which are seen. It never comes if no two files
     /// may give one name.
     #[error("a use that names several types, {0}")]
     Ambiguous(FilePlace),
-    /// An option with a name that names nothing, and should, by the place of the first such name. It is told of an
-    /// index, and no run stops with it: one that is refused for such an option says `Unresolved`.
+    /// An option with a name that names nothing, and should, by the place of the first such name: the first of them, if
+    /// each use names a type. It comes only if names in options are linked.
     #[error("an option without a target, {0}")]
     OptionGap(FilePlace),
     /// A use that names a type, but may name another one once the file with this number can be read. It is told of an
@@ -95,6 +94,7 @@ impl From<BuildFault> for Fault {
             BuildFault::MissingImport(place) => Fault::MissingImport(place),
             BuildFault::Unresolved(place) => Fault::Unresolved(place),
             BuildFault::Ambiguous(place) => Fault::Ambiguous(place),
+            BuildFault::OptionGap(place) => Fault::OptionGap(place),
         }
     }
 }

@@ -14,6 +14,7 @@ ghost use Rattle.protoscip.specs.Findings.{
   finding_of,
   first_of,
   import_of,
+  is_gap_at,
   is_import_at,
   is_one_place,
   is_other,
@@ -37,7 +38,7 @@ use crate::telling::{
     count_imports, count_left_out, count_skipped, count_skipped_sources, count_uses,
 };
 use crate::tree_counter::TreeCounter;
-use crate::unread::unread_findings;
+use crate::unread::{UnreadPath, unread_findings};
 use fault_reports::{Counts, Finding, FindingKind, Place};
 use index_hooks::Chooses;
 use proto_link::FilePlace;
@@ -209,11 +210,11 @@ pub fn told_findings<'a>(
 pub fn all_findings<'a>(
     alloc: Global,
     tree: &'a Tree,
-    unread: &'a [String],
+    unread: &'a [UnreadPath],
     told: &[Omission],
 ) -> Result<Vec<Finding<'a>>, AllocError>
     requires { HaveFilesOf tree.now told.now }
-    ensures { IfOk result (λ findings. findings.items ≡ all_findings tree.now (map string_bytes unread.now) told.now) }
+    ensures { IfOk result (λ findings. findings.items ≡ all_findings tree.now unread.now told.now) }
 {
     let mut findings = unread_findings(alloc, unread)?;
     let mut others = told_findings(alloc, tree, told)?;
@@ -260,13 +261,22 @@ fn is_import_at(place: &FilePlace, fault: &Fault) -> bool
     }
 }
 
-/// Whether a fault is that of the use or of the option at this place.
+/// Whether a fault is that of the use at this place.
 fn is_use_at(place: &FilePlace, fault: &Fault) -> bool
     ensures { result ≡ is_use_at place.now fault.now }
 {
     match fault {
         Fault::Unresolved(other) => is_one_place(place, other),
         Fault::Ambiguous(other) => is_one_place(place, other),
+        _ => false,
+    }
+}
+
+/// Whether a fault is that of the option at this place.
+fn is_gap_at(place: &FilePlace, fault: &Fault) -> bool
+    ensures { result ≡ is_gap_at place.now fault.now }
+{
+    match fault {
         Fault::OptionGap(other) => is_one_place(place, other),
         _ => false,
     }
@@ -282,7 +292,7 @@ fn is_uncertain_at(place: &FilePlace, fault: &Fault) -> bool
     }
 }
 
-/// Whether the second tells of the same file, import or use as the first.
+/// Whether the second tells of the same file, import, use or option as the first.
 fn tells_same(fault: &Fault, other: &Fault) -> bool
     ensures { result ≡ tells_same fault.now other.now }
 {
@@ -292,7 +302,7 @@ fn tells_same(fault: &Fault, other: &Fault) -> bool
         Fault::MissingImport(place) => is_import_at(place, other),
         Fault::Unresolved(place) => is_use_at(place, other),
         Fault::Ambiguous(place) => is_use_at(place, other),
-        Fault::OptionGap(place) => is_use_at(place, other),
+        Fault::OptionGap(place) => is_gap_at(place, other),
         Fault::Uncertain(place, _) => is_uncertain_at(place, other),
         _ => false,
     }
@@ -382,8 +392,8 @@ pub fn counts_of(sources: usize, told: &[Omission], status: u8) -> Counts
 }
 
 /// The same, with what couldn't be read and was left out.
-pub fn counts_with(sources: usize, unread: &[String], told: &[Omission], status: u8) -> Counts
-    ensures { result ≡ counts_with sources (map string_bytes unread.now) told.now status }
+pub fn counts_with(sources: usize, unread: &[UnreadPath], told: &[Omission], status: u8) -> Counts
+    ensures { result ≡ counts_with sources unread.now told.now status }
 {
     Counts {
         skipped: count_left_out(unread, told),

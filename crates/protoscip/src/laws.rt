@@ -7,15 +7,21 @@ ghost use Rattle.protoscip.specs.Headline.{Headline, HeadlineOfTree};
 ghost use Rattle.protoscip.specs.IndexLaws.{OneFault, IndexedHasNoFault, OneIndexing};
 ghost use Rattle.protoscip.specs.IndexLaws.{OneIndexingOfChoices, OneIndexingHasNoFault};
 ghost use Rattle.protoscip.specs.NameLaws.{LawsOfNames};
+ghost use Rattle.protoscip.specs.Shards.{PartsMakeTheWhole};
 ghost use Rattle.protoscip.specs.UseLaws.{EachOptionNameHasParts, EachUseHasATarget};
 
 use crate::dumping::DefaultChoices;
 use index_hooks::Chooses;
+use option_link::targets_are_reachable;
 use proto_decl::{
     facts_are_filled, names_are_identifiers, prefixes_are_entities, scopes_are_known,
 };
 use proto_link::one_declaration_a_name;
-use scip_build::{Settings, built_has_no_fault, one_build_fault, one_built};
+use scip_build::{
+    Settings, built_has_no_fault, documents_are_in_order, one_build_fault, one_built,
+    parts_are_built_alike,
+};
+use scip_join::shards_make_the_whole;
 use scip_model::symbols_name_one_entity_in_packages;
 use scip_symbol::files_are_without_clash;
 use source_tree::{Tree, one_reading};
@@ -71,7 +77,8 @@ pub fn each_option_name_has_parts()
 }
 
 /// What the headline rests on, whatever was chosen: a full name belongs to one declaration, a symbol to one entity,
-/// a use that names a type has a target, and a name in an option that names something has parts.
+/// a use that names a type has a target, and a name in an option that names something has parts, and names it in a file
+/// that is reachable.
 pub fn laws_of_names()
     ensures { LawsOfNames }
 {
@@ -80,6 +87,7 @@ pub fn laws_of_names()
     one_declaration_a_name();
     each_use_has_a_target();
     each_option_name_has_parts();
+    targets_are_reachable();
     symbols_name_one_entity_in_packages();
     files_are_without_clash();
 }
@@ -88,7 +96,7 @@ pub fn laws_of_names()
 /// session answers from, decode to one index only: the one that the grammar of the settings' dialect, the scoping
 /// rules and allowed choices give the tree, with its documents where the settings place them. Each component of a use
 /// in a source names an entity, so it occurs unless what it names isn't kept; if names in options are linked, so does
-/// each component of one that names something in a file that counts.
+/// each component of one that names something.
 /// Each occurrence is one of exactly one entity of the tree's files, a declaration's entity is its own, and entities
 /// and symbols are one to one. So each query for references or definitions over these bytes answers exactly the
 /// occurrences of the entity asked about, or those that define it, each once and in the index's order, and nothing
@@ -123,4 +131,14 @@ pub fn listed_unless_memory()
 {
     one_reading();
     one_indexing(&DefaultChoices, &DefaultChoices);
+}
+
+/// If a tree without faults is indexed in parts, its index is the join of theirs, byte for byte, since a join has one
+/// spelling.
+pub fn parts_make_the_whole<C: Chooses>(chooser: &C)
+    ensures { PartsMakeTheWhole (C.allows chooser.now) }
+{
+    parts_are_built_alike(chooser);
+    documents_are_in_order(chooser);
+    shards_make_the_whole();
 }

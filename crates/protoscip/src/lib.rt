@@ -51,7 +51,7 @@ pub use indexing::{KeptIndex, index_and_keep, index_and_tell, index_tree};
 pub use laws::{
     built_has_files, each_option_name_has_parts, each_use_has_a_target, headline,
     indexed_has_no_fault, laws_of_names, listed_unless_memory, one_fault, one_indexing,
-    one_listing,
+    one_listing, parts_make_the_whole,
 };
 pub use lines::{path_line, placed_line, plain_line};
 pub use output::write_text;
@@ -64,6 +64,7 @@ pub use telling::{
 };
 pub use told_lines::told_line;
 pub use told_trees::told_of_tree;
+pub use unread::{UnreadPath, bad_path_sentence};
 
 // What is made below, for whoever embeds the indexer. (To read an index, `scip_wire` and `scip_query` are needed, too.)
 // Sources and settings,

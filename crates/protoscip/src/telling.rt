@@ -21,7 +21,7 @@ ghost use Rattle.protoscip.specs.ToldLines.{
 
 use crate::told_lines::push_told;
 use crate::tree_counter::TreeCounter;
-use crate::unread::push_unread;
+use crate::unread::{UnreadPath, push_unread};
 use proto_parse::Dialect;
 use scip_build::Omission;
 use source_tree::Tree;
@@ -30,8 +30,8 @@ use std::alloc::{AllocError, Global};
 /// How that is told which an index lacks.
 #[derive(Clone, Copy)]
 pub struct Telling<'a> {
-    /// What couldn't be read below the folders of the run, and was left out: a path for each.
-    pub unread: &'a [String],
+    /// What isn't read below the folders of the run, and is left out.
+    pub unread: &'a [UnreadPath],
     /// With what faults are explained, if that is asked for.
     pub explain: Option<Dialect>,
 }
@@ -79,8 +79,8 @@ pub fn count_skipped(told: &[Omission]) -> usize
 }
 
 /// How many files are left out, with what couldn't be read.
-pub fn count_left_out(unread: &[String], told: &[Omission]) -> usize
-    ensures { result ≡ left_out (map string_bytes unread.now) told.now }
+pub fn count_left_out(unread: &[UnreadPath], told: &[Omission]) -> usize
+    ensures { result ≡ left_out unread.now told.now }
 {
     unread.len() + count_skipped(told)
 }
@@ -127,11 +127,11 @@ fn numbers_line(
 fn counts_line(
     alloc: Global,
     sources: usize,
-    unread: &[String],
+    unread: &[UnreadPath],
     told: &[Omission],
 ) -> Result<String, AllocError>
     ensures { IfOk result (λ line. string_bytes line
-        ≡ counts_line_with sources (map string_bytes unread.now) told.now) }
+        ≡ counts_line_with sources unread.now told.now) }
 {
     numbers_line(
         alloc,
@@ -171,8 +171,8 @@ fn text_of(
     telling: &Telling<'_>,
 ) -> Result<String, AllocError>
     requires { HaveFilesOf tree.now told.now }
-    ensures { IfOk result (λ text. IsToldTextWith telling.now.explain tree.now sources (map string_bytes
-        telling.now.unread.now) told.now (string_bytes text)) }
+    ensures { IfOk result (λ text. IsToldTextWith telling.now.explain tree.now sources telling.now.unread.now told.now
+        (string_bytes text)) }
 {
     let mut text = String::new(alloc);
     push_unread(alloc, &mut text, telling.unread, telling.explain)?;
@@ -195,8 +195,8 @@ pub fn told_text_with(
 ) -> Result<String, AllocError>
     requires { HaveFilesOf tree.now told.now }
     ensures { (sources : ℕ) × IsSourceCount tree.now sources
-        × IfOk result (λ text. IsToldTextWith telling.now.explain tree.now sources (map string_bytes
-        telling.now.unread.now) told.now (string_bytes text)) }
+        × IfOk result (λ text. IsToldTextWith telling.now.explain tree.now sources telling.now.unread.now told.now
+        (string_bytes text)) }
 {
     let sources = tree.source_count();
     text_of(alloc, tree, sources, told, telling)
@@ -228,7 +228,7 @@ pub fn told_text(
 }
 
 /// Whether an index lacks nothing, and all could be read.
-pub fn omits_nothing(unread: &[String], told: &[Omission]) -> bool
+pub fn omits_nothing(unread: &[UnreadPath], told: &[Omission]) -> bool
     ensures { result ≡ (length unread.now == 0 && length told.now == 0) }
 {
     unread.is_empty() && told.is_empty()
@@ -259,7 +259,7 @@ pub trait Tells {
 impl Tells for Telling<'_> {
     // The report of an index that lacks something; for one that lacks nothing there is nothing to report.
     ghost tells = { λ telling tree told text. IsTextOfAllOmissions telling.explain tree
-        (map string_bytes telling.unread.now) told text };
+        telling.unread.now told text };
 
     /// The report of an index that lacks something; for one that lacks nothing there is nothing to report.
     fn text(

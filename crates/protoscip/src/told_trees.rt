@@ -2,15 +2,17 @@
 
 ghost use Rattle.std.specs.Prelude.{◌≡◌, IfErr, IfOk};
 ghost use Rattle.protoscip.specs.FaultLines.{HaveFilesOf};
-ghost use Rattle.protoscip.specs.ToldTrees.{IsToldOf, MayNotTell, skipping};
+ghost use Rattle.protoscip.specs.ToldTrees.{IsToldOf, MayNotTell, telling};
 
-use crate::dumping::dump_settings;
+use crate::dumping::no_package;
 use crate::fault::Fault;
-use basics::Sequence;
+use basics::{OwnedText, Sequence};
 use index_hooks::Chooses;
 use index_pool::Gate;
-use proto_parse::Dialect;
-use scip_build::{DocumentForm, Faulty, Omission, PlacedDocument, Run, Settings, build_in_form};
+use proto_lex::Encoding;
+use scip_build::{
+    DocumentForm, Faulty, Omission, PlacedDocument, Run, Settings, build_in_form, one_told,
+};
 use source_tree::Tree;
 use std::alloc::{AllocError, Global};
 use std::sync::Wait;
@@ -32,19 +34,27 @@ impl DocumentForm for AsNothing {
     }
 }
 
-/// Settings by which faults are skipped.
-fn skipping(alloc: Global, dialect: Dialect, options: bool) -> Result<Settings, AllocError>
-    ensures { IfOk result (λ settings. settings ≡ skipping dialect options) }
+/// The settings of a run, but faults are skipped, and what nothing that is told hangs on is set so that it costs nothing:
+/// documents have no place and symbols no package, and columns are in UTF-8. Takes no memory.
+fn telling(alloc: Global, settings: &Settings) -> Settings
+    ensures { result ≡ telling settings.now }
 {
-    let mut settings = dump_settings(alloc, dialect)?;
-    settings.options = options;
-    settings.faulty = Faulty::Skip;
-    Ok(settings)
+    Settings {
+        project_root: OwnedText::new(alloc),
+        at: OwnedText::new(alloc),
+        package: no_package(alloc),
+        encoding: Encoding::Utf8,
+        dialect: settings.dialect,
+        comments: settings.comments,
+        details: settings.details,
+        options: settings.options,
+        faulty: Faulty::Skip,
+        duplicates: settings.duplicates,
+    }
 }
 
-/// What is told of a tree if faults are skipped: all for which it would be refused, in order of file and place. Its
-/// index is built and let go of, so a run that was refused can say each of its faults. `options` says whether names in
-/// options are linked.
+/// What is told of a tree by the settings of a run if faults are skipped: all for which it would be refused, in order
+/// of file and place. Its index is built and let go of, so a run that was refused can say each of its faults.
 ///
 /// `Spawn`, `Memory`: that can't be had. File numbers are those of the tree.
 #[tactic(auto, using(crate::proofs::ToldTreeRules::of_tree))]
@@ -52,14 +62,14 @@ pub fn told_of_tree<R: Threads + Wait, C: Chooses + Sync, G: Gate>(
     run: &Run<'_, R, G>,
     tree: &Tree,
     chooser: &C,
-    dialect: Dialect,
-    options: bool,
+    settings: &Settings,
 ) -> Result<Sequence<Omission>, Fault>
-    ensures told { IfOk result (IsToldOf (C.allows chooser.now) dialect options tree.now) }
+    ensures told { IfOk result (IsToldOf (C.allows chooser.now) settings.now tree.now) }
     ensures files { IfOk result (HaveFilesOf tree.now) }
     ensures stops { IfErr result (MayNotTell run.now.workers) }
 {
-    let settings = skipping(run.alloc, dialect, options)?;
+    one_told(chooser, chooser);
+    let settings = telling(run.alloc, settings);
     let built = build_in_form(run, tree, chooser, &settings, &AsNothing)?;
     Ok(built.told)
 }

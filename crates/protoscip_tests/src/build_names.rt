@@ -21,7 +21,7 @@ const SECOND: FilePlace = FilePlace {
 };
 
 /// Faults, and their texts.
-const FAULTS: [(BuildFault, &str); 8] = [
+const FAULTS: [(BuildFault, &str); 9] = [
     (BuildFault::Spawn, "a thread could not be started"),
     (BuildFault::Memory, "memory ran out"),
     (
@@ -47,6 +47,10 @@ const FAULTS: [(BuildFault, &str); 8] = [
     (
         BuildFault::Ambiguous(SECOND),
         "a use that names several types, at byte 5 of file 4",
+    ),
+    (
+        BuildFault::OptionGap(FIRST),
+        "an option without a target, at byte 2 of file 1",
     ),
 ];
 

@@ -7,6 +7,7 @@ use crate::calls::{Desk, Given, WANT, see, writer};
 use basics::Sequence;
 use index_hooks::Registry;
 use proto_lex::Encoding;
+use proto_link::Duplicates;
 use protoscip::{
     Fault, Finding, ReportFormat, counts_of, findings_come_once, index_tree, refused_findings,
     report_bytes, told_findings, told_of_tree,
@@ -22,22 +23,25 @@ use std::thread::Threads;
 /// So many bytes are written of an index.
 const ROOM: usize = 4096;
 
-/// Files, as `test_kit` takes them; the report where faults are skipped; the report where they are refused; and the
-/// last one if nothing is told beside the fault.
+/// Files, as `test_kit` takes them, and what is done with names that several of them give; the report where faults are
+/// skipped; the report where they are refused; and the last one if nothing is told beside the fault.
 struct Row {
     files: &'static str,
+    duplicates: Duplicates,
     skipped: &'static str,
     refused: &'static str,
     alone: &'static str,
 }
 
 // The first row reads: in `a.proto`, the import at byte 26 has no target, nor has the use at byte 52; and `b.proto` can't
-// be read, for which the tree is refused. In the last row a use may name another type once `a.proto` can be read: no tree
-// is refused for that.
-static ROWS: [Row; 3] = [
+// be read, for which the tree is refused. In the third row a use may name another type once `a.proto` can be read: no
+// tree is refused for that. In the last one two files give one name, each for whoever sees it: so only the use at byte
+// 31 of `c.proto` has no target.
+static ROWS: [Row; 4] = [
     Row {
         files: "b.proto\n@|\
 a.proto\nsyntax = \"proto3\";\nimport \"e.\" 'proto';\nmessage M { D d = 1; }\n",
+        duplicates: Duplicates::Refuse,
         skipped: "{\"column\":8,\"end\":38,\"first\":null,\"import\":\"e.proto\",\"kind\":\"no target\",\"line\":2,\"message\":\"no source has this path, below ROOT or a folder that is included\",\"name\":\"MissingImport\",\"offset\":26,\"path\":\"a.proto\"}
 {\"column\":13,\"end\":53,\"first\":null,\"import\":null,\"kind\":\"no target\",\"line\":3,\"message\":\"no type that this source sees has this name\",\"name\":\"Unresolved\",\"offset\":52,\"path\":\"a.proto\"}
 {\"column\":1,\"end\":null,\"first\":null,\"import\":null,\"kind\":\"skipped\",\"line\":1,\"message\":\"this character can't be here\",\"name\":\"BadByte\",\"offset\":0,\"path\":\"b.proto\"}
@@ -54,6 +58,7 @@ a.proto\nsyntax = \"proto3\";\nimport \"e.\" 'proto';\nmessage M { D d = 1; }\n"
     },
     Row {
         files: "a.proto\nsyntax = \"proto3\";\nmessage M {\n  enum A { ZERO = 0; }\n  enum B { ZERO = 0; }\n}\n",
+        duplicates: Duplicates::Refuse,
         skipped: "{\"column\":12,\"end\":69,\"first\":{\"column\":12,\"end\":46,\"line\":3,\"offset\":42,\"path\":\"a.proto\"},\"import\":null,\"kind\":\"skipped\",\"line\":4,\"message\":\"this full name is given already\",\"name\":\"Duplicate\",\"offset\":65,\"path\":\"a.proto\"}
 {\"imports\":0,\"kind\":\"counts\",\"skipped\":1,\"sources\":0,\"status\":0,\"uses\":0}
 ",
@@ -68,6 +73,7 @@ a.proto\nsyntax = \"proto3\";\nimport \"e.\" 'proto';\nmessage M { D d = 1; }\n"
         files: "a.proto\n@|\
 b.proto\nsyntax = \"proto3\";\npackage p;\nimport \"a.proto\";\nimport \"c.proto\";\nmessage M { T t = 1; }\n|\
 c.proto\nsyntax = \"proto3\";\nmessage T {}\n",
+        duplicates: Duplicates::Refuse,
         skipped: "{\"column\":1,\"end\":null,\"first\":null,\"import\":null,\"kind\":\"skipped\",\"line\":1,\"message\":\"this character can't be here\",\"name\":\"BadByte\",\"offset\":0,\"path\":\"a.proto\"}
 {\"column\":8,\"end\":46,\"first\":null,\"import\":\"a.proto\",\"kind\":\"no target\",\"line\":3,\"message\":\"the file with this path is left out\",\"name\":\"MissingImport\",\"offset\":37,\"path\":\"b.proto\"}
 {\"column\":13,\"end\":79,\"first\":{\"column\":null,\"end\":null,\"line\":null,\"offset\":null,\"path\":\"a.proto\"},\"import\":null,\"kind\":\"uncertain\",\"line\":5,\"message\":\"a file that this source sees can't be read: it may declare a nearer type of this name\",\"name\":\"Uncertain\",\"offset\":78,\"path\":\"b.proto\"}
@@ -80,6 +86,22 @@ c.proto\nsyntax = \"proto3\";\nmessage T {}\n",
 ",
         alone: "{\"column\":1,\"end\":null,\"first\":null,\"import\":null,\"kind\":\"fault\",\"line\":1,\"message\":\"this character can't be here\",\"name\":\"BadByte\",\"offset\":0,\"path\":\"a.proto\"}
 {\"imports\":0,\"kind\":\"counts\",\"skipped\":0,\"sources\":3,\"status\":1,\"uses\":0}
+",
+    },
+    Row {
+        files: "a.proto\nsyntax = \"proto3\";\npackage p;\nmessage T {}\n|\
+b.proto\nsyntax = \"proto3\";\npackage p;\nmessage T {}\n|\
+c.proto\nsyntax = \"proto3\";\nmessage M { D d = 1; }\n|\
+d.proto\nsyntax = \"proto3\";\nimport \"b.proto\";\nmessage N { p.T t = 1; }\n",
+        duplicates: Duplicates::Keep,
+        skipped: "{\"column\":13,\"end\":32,\"first\":null,\"import\":null,\"kind\":\"no target\",\"line\":2,\"message\":\"no type that this source sees has this name\",\"name\":\"Unresolved\",\"offset\":31,\"path\":\"c.proto\"}
+{\"imports\":0,\"kind\":\"counts\",\"skipped\":0,\"sources\":4,\"status\":0,\"uses\":1}
+",
+        refused: "{\"column\":13,\"end\":32,\"first\":null,\"import\":null,\"kind\":\"fault\",\"line\":2,\"message\":\"no type that this source sees has this name\",\"name\":\"Unresolved\",\"offset\":31,\"path\":\"c.proto\"}
+{\"imports\":0,\"kind\":\"counts\",\"skipped\":0,\"sources\":4,\"status\":1,\"uses\":1}
+",
+        alone: "{\"column\":13,\"end\":32,\"first\":null,\"import\":null,\"kind\":\"fault\",\"line\":2,\"message\":\"no type that this source sees has this name\",\"name\":\"Unresolved\",\"offset\":31,\"path\":\"c.proto\"}
+{\"imports\":0,\"kind\":\"counts\",\"skipped\":0,\"sources\":4,\"status\":1,\"uses\":0}
 ",
     },
 ];
@@ -123,8 +145,7 @@ impl<'a, R: Threads + Wait + Abort> Desk<'a, R> {
     pub(crate) fn told(&self, given: &Given) -> Result<Sequence<Omission>, AllocError>
         ensures { IfOk result (HaveFilesOf given.now.tree) }
     {
-        let (dialect, options) = (given.settings.dialect, given.settings.options);
-        match told_of_tree(&self.run(2), &given.tree, given.registry, dialect, options) {
+        match told_of_tree(&self.run(2), &given.tree, given.registry, &given.settings) {
             Ok(told) => Ok(told),
             Err(_) => Err(AllocError),
         }
@@ -187,7 +208,7 @@ impl<'a, R: Threads + Wait + Abort> Desk<'a, R> {
     /// Sees the reports of the tree of a row.
     fn see_reports(&self, registry: &Registry, row: &Row) -> Result<(), AllocError> {
         let given = self.given(registry, row.files, Encoding::Utf8, Faulty::Refuse)?;
-        self.see_reports_of(&given, row)
+        self.see_reports_of(&given.naming(row.duplicates), row)
     }
 
     /// Sees the reports of each row.

@@ -20,9 +20,11 @@ struct Row {
 
 // In the first tree each part of an option's name, each field in braces and the value of an enum occurs, and what is in
 // included files has an entry. In the second and third an option has a part that nothing declares; in the fourth, too,
-// but uses come first. In the last two no source sees the file of the options' message, and another one declares its
-// name, too: if no source sees that either, it is no matter; if one does, nothing is said.
-static ROWS: [Row; 6] = [
+// but uses come first. In the next two no source imports the file of the options' message, and another one declares its
+// name, too: if no source reaches that, it is no matter; if one does, the two clash. In the seventh the type of an
+// option is in a file that the source reaches by a private import, whatever others declare. In the last the source
+// imports a copy of the file of the options' messages.
+static ROWS: [Row; 8] = [
     Row {
         files: "a.proto\nsyntax = \"proto3\";\npackage p;\nimport \"o.proto\";\n\
 message M { int32 n = 1 [lazy = true, (x).r = { e: V }]; }\n|\
@@ -54,7 +56,7 @@ external p/x.
     Row {
         files: "a.proto\nsyntax = \"proto3\";\nmessage M { int32 n = 1 [lazy = true, (y.z) = 1]; }\n",
         faulty: Faulty::Refuse,
-        due: "Unresolved(FilePlace { file: 0, span: Span { start: 58, end: 61 } })",
+        due: "OptionGap(FilePlace { file: 0, span: Span { start: 58, end: 61 } })",
         count: 2,
     },
     Row {
@@ -95,13 +97,42 @@ external google/protobuf/FieldOptions#lazy.
 message FieldOptions { optional bool lazy = 5; }\n|\
 +z.proto\nsyntax = \"proto2\";\npackage google.protobuf;\nmessage FieldOptions {}\n",
         faulty: Faulty::Refuse,
+        due: "Duplicate(FilePlace { file: 1, span: Span { start: 52, end: 64 } }, \
+FilePlace { file: 2, span: Span { start: 52, end: 64 } })",
+        count: 5,
+    },
+    Row {
+        files: "a.proto\nsyntax = \"proto3\";\nimport \"o.proto\";\noption (p.x) = { r: 1 };\n|\
++google/protobuf/descriptor.proto\nsyntax = \"proto2\";\npackage google.protobuf;\nmessage FileOptions {}\n|\
++h.proto\nsyntax = \"proto2\";\npackage p;\nmessage R { optional int32 r = 1; }\n|\
++o.proto\nsyntax = \"proto2\";\npackage p;\nimport \"google/protobuf/descriptor.proto\";\nimport \"h.proto\";\n\
+extend google.protobuf.FileOptions { optional R x = 50001; }\n|\
++z.proto\nsyntax = \"proto2\";\npackage p;\nmessage R {}\n",
+        faulty: Faulty::Refuse,
         due: "a.proto
 0 0 0 0 1 `a.proto`/
-1 7 1 16 2 `z.proto`/
-2 8 2 9 1 M#
-2 18 2 19 1 M#n.
+1 7 1 16 2 `o.proto`/
+2 8 2 9 0 p/
+2 10 2 11 0 p/x.
+2 17 2 18 0 p/R#r.
+external p/R#r.
+external p/x.
 ",
         count: 5,
+    },
+    Row {
+        files: "a.proto\nsyntax = \"proto3\";\nimport \"d.proto\";\noption java_package = \"x\";\n|\
++d.proto\nsyntax = \"proto2\";\npackage google.protobuf;\n\
+message FileOptions { optional string java_package = 1; }\n|\
++google/protobuf/descriptor.proto\nsyntax = \"proto2\";\npackage google.protobuf;\nmessage FileOptions {}\n",
+        faulty: Faulty::Refuse,
+        due: "a.proto
+0 0 0 0 1 `a.proto`/
+1 7 1 16 2 `d.proto`/
+2 7 2 19 0 google/protobuf/FileOptions#java_package.
+external google/protobuf/FileOptions#java_package.
+",
+        count: 3,
     },
 ];
 

@@ -29,8 +29,8 @@ const LARGE: &str =
 /// A use that a file makes uncertain.
 const UNCERTAIN: &str =
     "{\"column\":1,\"end\":5,\"first\":{\"column\":null,\"end\":null,\"line\":null,\"offset\":null,\
-     \"path\":\"c d.proto\"},\"import\":null,\"kind\":\"uncertain\",\"line\":2,\"message\":\"it may be another type\",\
-     \"name\":\"Uncertain\",\"offset\":2,\"path\":\"a b.proto\"}\n";
+     \"path\":\"c d\\\\xe9.proto\"},\"import\":null,\"kind\":\"uncertain\",\"line\":2,\
+     \"message\":\"it may be another type\",\"name\":\"Uncertain\",\"offset\":2,\"path\":\"a b.proto\"}\n";
 
 /// The last line.
 const COUNTS: &str =
@@ -56,7 +56,7 @@ const LOG: &str = "{\"$schema\":\"https://json.schemastore.org/sarif-2.1.0.json\
      \"region\":{\"byteLength\":3,\"byteOffset\":2,\"endColumn\":3,\"endLine\":2,\"startColumn\":1,\"startLine\":2}}}],\
      \"message\":{\"text\":\"it may be another type\"},\
      \"relatedLocations\":[{\"message\":{\"text\":\"it can't be read\"},\
-     \"physicalLocation\":{\"artifactLocation\":{\"uri\":\"c%20d.proto\"}}}],\
+     \"physicalLocation\":{\"artifactLocation\":{\"uri\":\"c%20d%E9.proto\"}}}],\
      \"ruleId\":\"Uncertain\"}],\
      \"tool\":{\"driver\":{\"name\":\"protoscip\",\
      \"rules\":[{\"id\":\"Duplicate\"},{\"id\":\"MissingImport\"},{\"id\":\"TooLarge\"},{\"id\":\"Uncertain\"}],\
@@ -108,9 +108,9 @@ fn large() -> Finding<'static> {
     }
 }
 
-/// A use that a file makes uncertain.
+/// A use that a file makes uncertain whose name isn't UTF-8.
 fn uncertain() -> Finding<'static> {
-    let behind = Place::new("c d.proto", &mut LineCounter::new(b"@"), None, None);
+    let behind = Place::of_entry("c d\\xe9.proto", b"c d\xe9.proto");
     Finding {
         kind: FindingKind::Uncertain,
         name: "Uncertain",

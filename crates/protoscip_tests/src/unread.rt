@@ -6,8 +6,8 @@ use crate::calls::{Desk, Given, see, writer};
 use index_hooks::Registry;
 use proto_lex::Encoding;
 use protoscip::{
-    ReportFormat, Telling, all_findings, counts_with, explain_in, index_and_tell, report_bytes,
-    told_text_with,
+    ReportFormat, Telling, UnreadPath, all_findings, counts_with, explain_in, index_and_tell,
+    report_bytes, told_text_with,
 };
 use scip_build::{Faulty, Omission};
 use source_tree::Tree;
@@ -32,7 +32,7 @@ struct Row {
 
 // The first row reads: the folder `d` couldn't be listed, nor the file `n` read, and the index of the other file lacks
 // nothing.
-static ROWS: [Row; 2] = [
+static ROWS: [Row; 3] = [
     Row {
         files: "a.proto\nsyntax = \"proto3\";\n",
         unread: "d/|n.proto",
@@ -67,13 +67,35 @@ protoscip: 0 sources indexed, 2 skipped, 0 imports and 0 uses without a target",
 {\"imports\":0,\"kind\":\"counts\",\"skipped\":2,\"sources\":0,\"status\":0,\"uses\":0}
 ",
     },
+    Row {
+        files: "a.proto\nsyntax = \"proto3\";\n",
+        unread: "!a\\x09.proto",
+        plain: "protoscip: skipped: a\\x09.proto: BadPath
+protoscip: 1 sources indexed, 1 skipped, 0 imports and 0 uses without a target",
+        explained: "protoscip: skipped: a\\x09.proto: BadPath
+a path has at most 4096 bytes, and no character below U+0020
+protoscip: 1 sources indexed, 1 skipped, 0 imports and 0 uses without a target",
+        report: "{\"column\":null,\"end\":null,\"first\":null,\"import\":null,\"kind\":\"skipped\",\"line\":null,\"message\":\"a path has at most 4096 bytes, and no character below U+0020\",\"name\":\"BadPath\",\"offset\":null,\"path\":\"a\\\\x09.proto\"}
+{\"imports\":0,\"kind\":\"counts\",\"skipped\":1,\"sources\":1,\"status\":0,\"uses\":0}
+",
+    },
 ];
 
+/// A path of a row: behind `!` one that is no good path.
+fn path_of(alloc: Global, text: &str) -> Result<UnreadPath, AllocError> {
+    let shown = text.strip_prefix("!").unwrap_or(text);
+    Ok(UnreadPath {
+        shown: String::from_str(alloc, shown)?,
+        bytes: Vec::from_slice(alloc, shown.as_bytes())?,
+        is_bad: text.starts_with('!'),
+    })
+}
+
 /// The paths of a row.
-fn paths_of(alloc: Global, text: &str) -> Result<Vec<String>, AllocError> {
+fn paths_of(alloc: Global, text: &str) -> Result<Vec<UnreadPath>, AllocError> {
     let mut paths = Vec::new(alloc);
     for path in text.split('|') {
-        paths.push(String::from_str(alloc, path)?)?;
+        paths.push(path_of(alloc, path)?)?;
     }
     Ok(paths)
 }
@@ -90,7 +112,7 @@ fn is_text(made: &Option<String>, text: &str) -> bool {
 fn report_of(
     alloc: Global,
     tree: &Tree,
-    unread: &[String],
+    unread: &[UnreadPath],
     told: &[Omission],
 ) -> Result<Vec<u8>, AllocError>
     requires { HaveFilesOf tree.now told.now }
@@ -101,7 +123,7 @@ fn report_of(
 }
 
 /// How that is told which an index lacks, beside these paths.
-fn telling_of<'u>(given: &Given, unread: &'u [String], is_explained: bool) -> Telling<'u> {
+fn telling_of<'u>(given: &Given, unread: &'u [UnreadPath], is_explained: bool) -> Telling<'u> {
     Telling {
         unread,
         explain: explain_in(is_explained, given.settings.dialect),
@@ -154,7 +176,7 @@ impl<'a, R: Threads + Wait + Abort> Desk<'a, R> {
     fn see_text_of(
         &self,
         given: &Given,
-        unread: &[String],
+        unread: &[UnreadPath],
         row: &Row,
         is_explained: bool,
     ) -> Result<(), AllocError> {
@@ -177,13 +199,18 @@ impl<'a, R: Threads + Wait + Abort> Desk<'a, R> {
     }
 
     /// The report of a tree, beside which these paths couldn't be read.
-    fn unread_report(&self, given: &Given, unread: &[String]) -> Result<Vec<u8>, AllocError> {
+    fn unread_report(&self, given: &Given, unread: &[UnreadPath]) -> Result<Vec<u8>, AllocError> {
         let told = self.told(given)?;
         report_of(self.alloc, &given.tree, unread, told.as_slice())
     }
 
     /// Sees that report.
-    fn see_report_of(&self, given: &Given, unread: &[String], due: &str) -> Result<(), AllocError> {
+    fn see_report_of(
+        &self,
+        given: &Given,
+        unread: &[UnreadPath],
+        due: &str,
+    ) -> Result<(), AllocError> {
         let report = self.unread_report(given, unread)?;
         see(self.rt, report.as_slice() == due.as_bytes(), due);
         Ok(())

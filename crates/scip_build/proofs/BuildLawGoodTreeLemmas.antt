@@ -19,13 +19,13 @@ use Rattle.proto_visibility.proofs.KeptLemmas.{clear_pairs, clear_read}
 use Rattle.proto_lex.specs.declared.position.Encoding.{Encoding}
 use Rattle.proto_parse.specs.dialect.Dialect.{Dialect}
 use Rattle.proto_decl.specs.Values.{Seen}
-use Rattle.proto_visibility.specs.Sees.IsReachable.{seen}
+use Rattle.proto_visibility.specs.Reaches.Reaches.{sees}
+use Rattle.proto_visibility.specs.Reaches.IsReachable.{reached}
 use Rattle.proto_visibility.specs.Sees.SeesBy.{itself}
 use Rattle.index_hooks.specs.declared.choice.Choice.{Choice}
 use Rattle.scip_build.specs.FactForms.{form_of}
 use Rattle.scip_model.specs.Packages.{Packages, naming}
 use Rattle.scip_model.specs.Conditions.{AllResolve}
-use Rattle.option_link.specs.declared.facts.OptionFacts.{OptionFacts}
 use Rattle.scip_model.specs.Indexes.{IsIndexWith}
 use Rattle.source_tree.specs.Files.{TreeFile}
 use Rattle.scip_build.specs.declared.settings.Settings.{Settings}
@@ -94,7 +94,7 @@ are_all_kept files k d within =
     sym (same_Some None (get_or (all_kept files) k d) (sym there ∙ at))
   where
     file : File
-    file = record { path = []; facts = None; is_included = false; is_left_out = false }
+    file = record { path = []; facts = None; is_included = false; is_left_out = false; links_options = false }
 
 -- each use of a source names a type
 all_are_named : (files : List File) → AllResolve files → (p : FilePlace) → IsUnresolvedAt files p → ⊥
@@ -291,8 +291,8 @@ module _ (good : NothingIsLeftOutOfGoodFiles) where
             let present : linked.is_left_out ≡ false = its.present in
             absurd (clear.read number (record {
               file = linked;
-              counts = seen (record { file = linked; numbered = numbered; source = source; present = present }) itself
-                  (record { file = linked; numbered = numbered; present = present });
+              counts = reached (record { file = linked; numbered = numbered; source = source; present = present })
+                  (sees itself) (record { file = linked; numbered = numbered; present = present });
               numbered = numbered;
               unread = ap facts_in is;
             }))
@@ -306,6 +306,10 @@ module _ (good : NothingIsLeftOutOfGoodFiles) where
             path = is.path;
             is_included = is.is_included;
             present = is.present;
+            links = subst (λ (form : ReadForm). parsed_file.links_options ≡ asks_options another.dialect form.options)
+                same.form
+                (subst (λ (d : Dialect). parsed_file.links_options ≡ asks_options d (form_of settings).options)
+                same.dialect is.links);
             contents = read_so number file parsed_file at there parsed_file.contents refl is.contents;
           };
     }

@@ -141,30 +141,40 @@ module _ (files : List File) where
       absurd (second.1 (subst (IsAmbiguousAt files) same first.1))
   one_reason place other a b same (inr first) (inr second) = first.0 ∙ (ap link.Ambiguous same ∙ sym second.0)
 
+-- what refuses files: a fault of the linker, or the gap of an option at a place
+abbrev Cause : Type 0
+Cause = LinkFault ⊎ FilePlace
+
+abbrev NoMemory : Cause → Type 0
+NoMemory cause = cause ≢ inl link.Memory
+
 module _ (asked : Option (List OptionFacts)) (parsed : List ReadFile) (files : List File) where
   -- what has no target, and is refused for it: the first use, or else the first gap of an option
-  abbrev IsLacking : LinkFault → Type 0
-  IsLacking fault = ((place : FilePlace) × IsReasonAt files place fault × IsLeastUnresolved files place)
-      ⊎ ((place : FilePlace) × (fault ≡ link.Unresolved place) × IsLeastGap asked parsed files place)
+  abbrev IsLacking : Cause → Type 0
+  IsLacking (inl fault) = (place : FilePlace) × IsReasonAt files place fault × IsLeastUnresolved files place
+  IsLacking (inr place) = IsLeastGap asked parsed files place
 
-  one_lacking : (a b : LinkFault) → IsLacking a → IsLacking b → a ≡ b
-  one_lacking a b (inl first) (inl second) =
-      one_reason files first.0 second.0 a b (one_place files first.0 second.0 first.2 second.2) first.1 second.1
-  one_lacking a b (inl first) (inr second) = absurd (all_resolve files second.2.resolved first.0 first.2)
-  one_lacking a b (inr first) (inl second) = absurd (all_resolve files first.2.resolved second.0 second.2)
-  one_lacking a b (inr first) (inr second) =
-      first.1 ∙ (ap link.Unresolved (one_least asked parsed files first.0 second.0 first.2 second.2) ∙ sym second.1)
+  one_lacking : (a b : Cause) → IsLacking a → IsLacking b → a ≡ b
+  one_lacking (inl a) (inl b) first second =
+      ap inl
+      (one_reason files first.0 second.0 a b (one_place files first.0 second.0 first.2 second.2) first.1 second.1)
+  one_lacking (inl a) (inr b) first second = absurd (all_resolve files second.resolved first.0 first.2)
+  one_lacking (inr a) (inl b) first second = absurd (all_resolve files first.resolved second.0 second.2)
+  one_lacking (inr a) (inr b) first second = ap inr (one_least asked parsed files a b first second)
 
-  none_lacking : AllResolve files → HaveNoGaps asked parsed files → (fault : LinkFault) → IsLacking fault → ⊥
-  none_lacking all filled fault (inl lacks) = all_resolve files all lacks.0 lacks.2
-  none_lacking all filled fault (inr lacks) = filled lacks.0 lacks.2.least.holds
+  none_lacking : AllResolve files → HaveNoGaps asked parsed files → (cause : Cause) → IsLacking cause → ⊥
+  none_lacking all filled (inl fault) lacks = all_resolve files all lacks.0 lacks.2
+  none_lacking all filled (inr place) gap = filled place gap.least.holds
 
 module _ (duplicates : Duplicates) (asked : Option (List OptionFacts)) (parsed : List ReadFile)
     (files : List File) where
+  -- the linker refuses the files
+  abbrev RefusesToLink : Cause → Type 0
+  RefusesToLink cause = (fault : LinkFault) × (cause ≡ inl fault) × MayRefuse duplicates files fault
+
   -- why the files make no index
-  abbrev Refuses : LinkFault → Type 0
-  Refuses fault =
-      MayRefuse duplicates files fault ⊎ (CanBeLinked duplicates files × IsLacking asked parsed files fault)
+  abbrev Refuses : Cause → Type 0
+  Refuses cause = RefusesToLink cause ⊎ (CanBeLinked duplicates files × IsLacking asked parsed files cause)
 
   linked_is_linked : CanBeLinked duplicates files → (fault : LinkFault) → MayRefuse duplicates files fault
       → fault ≢ link.Memory → ⊥
@@ -174,79 +184,99 @@ module _ (duplicates : Duplicates) (asked : Option (List OptionFacts)) (parsed :
   linked_is_linked can _ (absent_import {place = place} read clear absent) other = can.complete place absent.missing
   linked_is_linked can _ lacks_memory other = absurd (other refl)
 
-  one_cause : OneRefusal → HaveOrigins files → (a b : LinkFault) → Refuses a → Refuses b → a ≢ link.Memory
-      → b ≢ link.Memory → a ≡ b
-  one_cause one origins a b (inl first) (inl second) not nor = one duplicates files origins a b first second not nor
-  one_cause one origins a b (inl first) (inr second) not nor = absurd (linked_is_linked second.0 a first not)
-  one_cause one origins a b (inr first) (inl second) not nor = absurd (linked_is_linked first.0 b second nor)
+  -- files that can be linked aren't refused by the linker
+  linked_cause : CanBeLinked duplicates files → (cause : Cause) → RefusesToLink cause → NoMemory cause → ⊥
+  linked_cause can cause refuses not =
+      linked_is_linked can refuses.0 refuses.2 (λ memory. not (refuses.1 ∙ ap inl memory))
+
+  one_cause : OneRefusal → HaveOrigins files → (a b : Cause) → Refuses a → Refuses b → NoMemory a → NoMemory b
+      → a ≡ b
+  one_cause one origins a b (inl first) (inl second) not nor =
+      first.1 ∙ (ap inl (one duplicates files origins first.0 second.0 first.2 second.2
+      (λ memory. not (first.1 ∙ ap inl memory)) (λ memory. nor (second.1 ∙ ap inl memory))) ∙ sym second.1)
+  one_cause one origins a b (inl first) (inr second) not nor = absurd (linked_cause second.0 a first not)
+  one_cause one origins a b (inr first) (inl second) not nor = absurd (linked_cause first.0 b second nor)
   one_cause one origins a b (inr first) (inr second) not nor =
       one_lacking asked parsed files a b first.1 second.1
 
   -- and why they do make one
-  none_refuses : CanBeLinked duplicates files → AllResolve files → HaveNoGaps asked parsed files → (fault : LinkFault)
-      → Refuses fault → fault ≢ link.Memory → ⊥
-  none_refuses can all filled fault (inl first) not = linked_is_linked can fault first not
-  none_refuses can all filled fault (inr later) not = none_lacking asked parsed files all filled fault later.1
+  none_refuses : CanBeLinked duplicates files → AllResolve files → HaveNoGaps asked parsed files → (cause : Cause)
+      → Refuses cause → NoMemory cause → ⊥
+  none_refuses can all filled cause (inl first) not = linked_cause can cause first not
+  none_refuses can all filled cause (inr later) not = none_lacking asked parsed files all filled cause later.1
 
 -- the same of files that were read alike
 refuses_too : (duplicates : Duplicates) (asked other : Option (List OptionFacts)) (parsed again : List ReadFile)
     (files others : List File) → asked ≡ other → reads_of parsed ≡ reads_of again → files ≡ others
-    → (fault : LinkFault) → Refuses duplicates asked parsed files fault → Refuses duplicates other again others fault
-refuses_too duplicates asked other parsed again files others asked_are reads files_are fault (inl is) =
-    inl (subst (λ fs. MayRefuse duplicates fs fault) files_are is)
-refuses_too duplicates asked other parsed again files others asked_are reads files_are fault (inr (can, inl lacks)) =
+    → (cause : Cause) → Refuses duplicates asked parsed files cause → Refuses duplicates other again others cause
+refuses_too duplicates asked other parsed again files others asked_are reads files_are cause (inl is) =
+    inl (is.0, is.1, subst (λ fs. MayRefuse duplicates fs is.0) files_are is.2)
+refuses_too duplicates asked other parsed again files others asked_are reads files_are (inl fault) (inr (can, lacks)) =
     inr (
       subst (CanBeLinked duplicates) files_are can,
-      inl (
+      (
         lacks.0,
         subst (λ fs. IsReasonAt fs lacks.0 fault) files_are lacks.1,
         subst (λ fs. IsLeastUnresolved fs lacks.0) files_are lacks.2,
       ),
     )
-refuses_too duplicates asked other parsed again files others asked_are reads files_are fault (inr (can, inr lacks)) =
+refuses_too duplicates asked other parsed again files others asked_are reads files_are (inr place) (inr (can, gap)) =
     inr (
       subst (CanBeLinked duplicates) files_are can,
-      inr (
-        lacks.0,
-        lacks.1,
-        least_too asked other parsed again files others asked_are reads files_are lacks.0 lacks.2,
-      ),
+      least_too asked other parsed again files others asked_are reads files_are place gap,
     )
 
 -- a fault's reason: the first source that can't be read, or one of files that were read
-abbrev Reason : Settings → (allows : Seen → Choice → Type 0) → List TreeFile → LinkFault → Type 0
+abbrev Reason : Settings → (allows : Seen → Choice → Type 0) → List TreeFile → Cause → Type 0
 Reason settings allows tree cause =
-    ((number : ℕ) × (fault : FileFault) × (cause ≡ link.Broken number)
+    ((number : ℕ) × (fault : FileFault) × (cause ≡ inl (link.Broken number))
     × IsFirstFaulty settings.dialect tree number fault)
     ⊎ OfParsed settings.dialect (form_of settings) allows tree
     (λ parsed. Refuses settings.duplicates (asked_in settings parsed) parsed (linked_files parsed) cause)
 
+-- the cause of a fault: that of a gap is apart
+abbrev cause_in : BuildFault → Cause
+cause_in (build.OptionGap place) = inr place
+cause_in fault = inl (cause_of fault)
+
+-- a fault that names something has a cause that does
+names_in : (fault : BuildFault) → cause_of fault ≢ link.Memory → NoMemory (cause_in fault)
+names_in build.Spawn not = absurd (not refl)
+names_in build.Memory not = absurd (not refl)
+names_in (build.File number fault) not = λ memory. cc
+names_in (build.Duplicate first second) not = λ memory. cc
+names_in (build.MissingImport place) not = λ memory. cc
+names_in (build.Unresolved place) not = λ memory. cc
+names_in (build.Ambiguous place) not = λ memory. cc
+names_in (build.OptionGap place) not = λ memory. cc
+
 reason : (settings : Settings) (allows : Seen → Choice → Type 0) (tree : List TreeFile) (workers : ℕ)
     (fault : BuildFault) → IsBuildFault allows settings tree workers fault
-    → cause_of fault ≢ link.Memory → (settings.faulty ≡ Refuse) × Reason settings allows tree (cause_of fault)
+    → NoMemory (cause_in fault) → (settings.faulty ≡ Refuse) × Reason settings allows tree (cause_in fault)
 reason settings allows tree workers build.Spawn is not = absurd (not refl)
 reason settings allows tree workers build.Memory is not = absurd (not refl)
 reason settings allows tree workers (build.File number fault) (refuse, inl first) not =
     (refuse, inl (number, fault, refl, first))
 reason settings allows tree workers (build.File number fault)
-    (refuse, inr (parsed, are, is_unread broken has)) not = (refuse, inr (parsed, are, inl (broken_file broken)))
+    (refuse, inr (parsed, are, is_unread broken has)) not =
+    (refuse, inr (parsed, are, inl (link.Broken number, refl, broken_file broken)))
 reason settings allows tree workers (build.Duplicate first second) (refuse, (parsed, are, is_duplicate is))
-    not = (refuse, inr (parsed, are, inl is))
+    not = (refuse, inr (parsed, are, inl (link.Duplicate first second, refl, is)))
 reason settings allows tree workers (build.MissingImport place) (refuse, (parsed, are, is_missing is)) not =
-    (refuse, inr (parsed, are, inl is))
-reason settings allows tree workers (build.Unresolved place) (refuse, (parsed, are, (can, inl is))) not =
-    (refuse, inr (parsed, are, inr (can, inl (place, inl (refl, is.1), is.0))))
-reason settings allows tree workers (build.Unresolved place) (refuse, (parsed, are, (can, inr gap))) not =
-    (refuse, inr (parsed, are, inr (can, inr (place, refl, gap))))
-reason settings allows tree workers (build.Ambiguous place) (refuse, is) not =
-    (refuse, inr (is.0, is.1, inr (is.2.0, inl (place, inr (refl, is.2.2), is.2.1))))
+    (refuse, inr (parsed, are, inl (link.MissingImport place, refl, is)))
+reason settings allows tree workers (build.Unresolved place) (refuse, (parsed, are, (can, least, is))) not =
+    (refuse, inr (parsed, are, inr (can, (place, inl (refl, is), least))))
+reason settings allows tree workers (build.Ambiguous place) (refuse, (parsed, are, (can, least, is))) not =
+    (refuse, inr (parsed, are, inr (can, (place, inr (refl, is), least))))
+reason settings allows tree workers (build.OptionGap place) (refuse, (parsed, are, (can, gap))) not =
+    (refuse, inr (parsed, are, inr (can, gap)))
 
 -- two faults of a build have one cause
 abbrev OneCause : (allows others : Seen → Choice → Type 0) → Type 0
 OneCause allows others =
     (settings : Settings) (tree : List TreeFile) (workers more : ℕ) (fault other : BuildFault)
     → IsBuildFault allows settings tree workers fault → IsBuildFault others settings tree more other
-    → cause_of fault ≢ link.Memory → cause_of other ≢ link.Memory → cause_of fault ≡ cause_of other
+    → NoMemory (cause_in fault) → NoMemory (cause_in other) → cause_in fault ≡ cause_in other
 
 module _ (apart : NoFactsWhereUnreadable) (one_beside : OneBesideAFile) (allows others : Seen → Choice → Type 0)
     (one_linking : OneLinking allows others) (none : NoParsedFilesWhereFaulty allows)
@@ -254,10 +284,10 @@ module _ (apart : NoFactsWhereUnreadable) (one_beside : OneBesideAFile) (allows 
   -- what refuses one reading of a tree refuses another
   refuses_again : (settings : Settings) (tree : List TreeFile) (parsed again : List ReadFile)
       → AreParsedFiles Refuse settings.dialect (form_of settings) allows tree parsed
-      → AreParsedFiles Refuse settings.dialect (form_of settings) others tree again → (fault : LinkFault)
-      → Refuses settings.duplicates (asked_in settings again) again (linked_files again) fault
-      → Refuses settings.duplicates (asked_in settings parsed) parsed (linked_files parsed) fault
-  refuses_again settings tree parsed again are also fault refuses =
+      → AreParsedFiles Refuse settings.dialect (form_of settings) others tree again → (cause : Cause)
+      → Refuses settings.duplicates (asked_in settings again) again (linked_files again) cause
+      → Refuses settings.duplicates (asked_in settings parsed) parsed (linked_files parsed) cause
+  refuses_again settings tree parsed again are also cause refuses =
       let files = one_linking Refuse Refuse settings.dialect (form_of settings) tree parsed again are also in
       let reads = same_reads apart allows others Refuse Refuse settings.dialect (form_of settings) tree parsed again are
       also in
@@ -265,36 +295,38 @@ module _ (apart : NoFactsWhereUnreadable) (one_beside : OneBesideAFile) (allows 
       also one_beside in
       refuses_too settings.duplicates (asked_in settings again) (asked_in settings parsed) again parsed
       (linked_files again) (linked_files parsed) (sym (same_asked (asks_in settings) parsed again known)) (sym reads)
-      (sym files) fault refuses
+      (sym files) cause refuses
 
   pub built_has_no_fault : BuiltHasNoFault allows others
   built_has_no_fault settings tree workers built fault is wrong not =
-      let why = reason settings others tree workers fault wrong not in
+      let names = names_in fault not in
+      let why = reason settings others tree workers fault wrong names in
       let Read : Faulty → Type 0 = λ f. AreParsedFiles f settings.dialect (form_of settings) allows tree is.all in
       let read : Read Refuse = subst Read why.0 is.read in
       let good = is.of_files.refused why.0 in
       elim why.1 [
         | inl first ↦ none settings.dialect (form_of settings) tree is.all first.0 first.1 read first.3
         | inr later ↦ (
-            let here = refuses_again settings tree is.all later.0 read later.1 (cause_of fault) later.2 in
+            let here = refuses_again settings tree is.all later.0 read later.1 (cause_in fault) later.2 in
             none_refuses settings.duplicates (asked_in settings is.all) is.all (linked_files is.all) good.linked
-            good.resolved good.filled (cause_of fault) here not)
+            good.resolved good.filled (cause_in fault) here names)
       ]
 
   cause_is_one : OneFirstFaulty → OneRefusal → OneCause allows others
   cause_is_one one_first one_refusal settings tree workers more fault other is also not nor =
       both (reason settings allows tree workers fault is not).1 (reason settings others tree more other also nor).1
     where
-      both : Reason settings allows tree (cause_of fault) → Reason settings others tree (cause_of other)
-          → cause_of fault ≡ cause_of other
-      both (inl a) (inl b) = a.2 ∙ (ap link.Broken (one_first settings.dialect tree a.0 b.0 a.1 b.1 a.3 b.3) ∙ sym b.2)
+      both : Reason settings allows tree (cause_in fault) → Reason settings others tree (cause_in other)
+          → cause_in fault ≡ cause_in other
+      both (inl a) (inl b) =
+          a.2 ∙ (ap (λ n. inl (link.Broken n)) (one_first settings.dialect tree a.0 b.0 a.1 b.1 a.3 b.3) ∙ sym b.2)
       both (inl a) (inr b) = absurd (none_others settings.dialect (form_of settings) tree b.0 a.0 a.1 b.1 a.3)
       both (inr a) (inl b) = absurd (none settings.dialect (form_of settings) tree a.0 b.0 b.1 a.1 b.3)
       both (inr a) (inr b) =
-          let here = refuses_again settings tree a.0 b.0 a.1 b.1 (cause_of other) b.2 in
+          let here = refuses_again settings tree a.0 b.0 a.1 b.1 (cause_in other) b.2 in
           let origins = have_origins a.0 (whole_at Refuse settings.dialect (form_of settings) allows tree a.0 a.1) in
           one_cause settings.duplicates (asked_in settings a.0) a.0 (linked_files a.0) one_refusal origins
-          (cause_of fault) (cause_of other) a.2
+          (cause_in fault) (cause_in other) a.2
           here not nor
 
 -- the file that is named can't be read, for the fault that is told
@@ -330,17 +362,18 @@ file_fault_is_one one allows others settings tree workers more number fault othe
     one settings.dialect first.file.text fault other first.unreadable (subst Of (sym same) second.unreadable)
 
 -- the fault that a cause says, but of a file
-of_cause : LinkFault → BuildFault
-of_cause (link.Broken number) = build.Memory
-of_cause (link.Duplicate first second) = build.Duplicate first second
-of_cause (link.MissingImport place) = build.MissingImport place
-of_cause (link.Unresolved place) = build.Unresolved place
-of_cause (link.Ambiguous place) = build.Ambiguous place
-of_cause link.Memory = build.Memory
+of_cause : Cause → BuildFault
+of_cause (inl (link.Broken number)) = build.Memory
+of_cause (inl (link.Duplicate first second)) = build.Duplicate first second
+of_cause (inl (link.MissingImport place)) = build.MissingImport place
+of_cause (inl (link.Unresolved place)) = build.Unresolved place
+of_cause (inl (link.Ambiguous place)) = build.Ambiguous place
+of_cause (inl link.Memory) = build.Memory
+of_cause (inr place) = build.OptionGap place
 
 -- a fault is the one that its cause says, or that of a file
-by_cause : (fault : BuildFault) → cause_of fault ≢ link.Memory
-    → (fault ≡ of_cause (cause_of fault)) ⊎ ((number : ℕ) × (of : FileFault) × (fault ≡ build.File number of))
+by_cause : (fault : BuildFault) → NoMemory (cause_in fault)
+    → (fault ≡ of_cause (cause_in fault)) ⊎ ((number : ℕ) × (of : FileFault) × (fault ≡ build.File number of))
 unfolding of_cause
 by_cause build.Spawn not = absurd (not refl)
 by_cause build.Memory not = absurd (not refl)
@@ -349,14 +382,15 @@ by_cause (build.Duplicate first second) not = inl refl
 by_cause (build.MissingImport place) not = inl refl
 by_cause (build.Unresolved place) not = inl refl
 by_cause (build.Ambiguous place) not = inl refl
+by_cause (build.OptionGap place) not = inl refl
 
 -- the fault that its cause says hasn't the cause of one of a file
-of_no_file : (fault other : BuildFault) (number : ℕ) (of : FileFault) → cause_of fault ≢ link.Memory
-    → fault ≡ of_cause (cause_of fault) → other ≡ build.File number of → cause_of fault ≡ cause_of other → ⊥
+of_no_file : (fault other : BuildFault) (number : ℕ) (of : FileFault) → NoMemory (cause_in fault)
+    → fault ≡ of_cause (cause_in fault) → other ≡ build.File number of → cause_in fault ≡ cause_in other → ⊥
 unfolding of_cause
-of_no_file fault other number of not said is same = not (ap cause_of (said ∙ ap of_cause (same ∙ ap cause_of is)))
+of_no_file fault other number of not said is same = not (ap cause_in (said ∙ ap of_cause (same ∙ ap cause_in is)))
 
-same_number : {n m : ℕ} → link.Broken n ≡ link.Broken m → n ≡ m
+same_number : {n m : ℕ} → ◌≡◌ {A = Cause} (inl (link.Broken n)) (inl (link.Broken m)) → n ≡ m
 same_number e = cc
 
 same_file_fault : {n m : ℕ} {f g : FileFault} → n ≡ m → f ≡ g → build.File n f ≡ build.File m g
@@ -376,8 +410,7 @@ module _ (one : OneFileFault) (allows others : Seen → Choice → Type 0) (sett
 
   of_one_cause : (fault other : BuildFault) → IsBuildFault allows settings tree workers fault
       → IsBuildFault others settings tree more other
-      → cause_of fault ≢ link.Memory → cause_of other ≢ link.Memory → cause_of fault ≡ cause_of other
-      → fault ≡ other
+      → NoMemory (cause_in fault) → NoMemory (cause_in other) → cause_in fault ≡ cause_in other → fault ≡ other
   of_one_cause fault other is also not nor same = elim (by_cause fault not) [
     | inl said ↦ elim (by_cause other nor) [
       | inl says ↦ said ∙ (ap of_cause same ∙ sym says)
@@ -388,7 +421,7 @@ module _ (one : OneFileFault) (allows others : Seen → Choice → Type 0) (sett
       | inr more_of ↦ of.2 ∙ (of_files of.0 more_of.0 of.1 more_of.1
           (subst (IsBuildFault allows settings tree workers) of.2 is)
           (subst (IsBuildFault others settings tree more) more_of.2 also)
-          (same_number (sym (ap cause_of of.2) ∙ (same ∙ ap cause_of more_of.2))) ∙ sym more_of.2)
+          (same_number (sym (ap cause_in of.2) ∙ (same ∙ ap cause_in more_of.2))) ∙ sym more_of.2)
     ]
   ]
 
@@ -397,6 +430,8 @@ module _ (apart : NoFactsWhereUnreadable) (one_beside : OneBesideAFile) (allows 
     (none_others : NoParsedFilesWhereFaulty others) where
   pub one_build_fault : OneFirstFaulty → OneRefusal → OneFileFault → OneBuildFault allows others
   one_build_fault one_first one_refusal one settings tree workers more fault other is also not nor =
-      of_one_cause one allows others settings tree workers more fault other is also not nor
+      let names = names_in fault not in
+      let others_name = names_in other nor in
+      of_one_cause one allows others settings tree workers more fault other is also names others_name
       (cause_is_one apart one_beside allows others one_linking none none_others one_first one_refusal settings tree
-      workers more fault other is also not nor)
+      workers more fault other is also names others_name)

@@ -1,5 +1,5 @@
 -- What is built by the same choices is one, and where one choice alone may come for what is seen, the choices are.
-use Rattle.std.proofs.Common.{◌≡◌, ◌∙◌, ℕ, ◌<◌, Bool, List, [], ◌∷◌, ◌++◌, length, map, Option, Some, Result, Ok, Err}
+use Rattle.std.proofs.Common.{◌≡◌, ◌∙◌, ℕ, ◌<◌, Bool, List, [], ◌∷◌, ◌++◌, length, map, Option, Some, Result}
 use Rattle.std.proofs.Common.{ap, sym}
 use Rattle.std.proofs.Common.{refl, subst}
 use Rattle.std.specs.declared.cmp.Ordering.{Ordering}
@@ -16,7 +16,6 @@ use Rattle.option_link.specs.declared.facts.OptionFacts.{OptionFacts}
 use Rattle.proto_parse.specs.dialect.Dialect.{Dialect}
 use Rattle.proto_decl.specs.Facts.{Facts}
 use Rattle.proto_decl.specs.Values.{Seen}
-use Rattle.proto_decl.specs.declared.declaration.Declaration.{Declaration}
 use Rattle.proto_lex.specs.declared.position.Encoding.{Encoding}
 use Rattle.proto_visibility.specs.declared.omissions.FileOmission.{FileOmission}
 use Rattle.proto_visibility.specs.declared.omissions.FileOmission.TheVariants as left_for
@@ -43,10 +42,10 @@ use Rattle.scip_build.specs.declared.omission.Omission.{Omission}
 use Rattle.scip_build.specs.declared.omission.Omission.TheVariants as omitted
 use Rattle.scip_build.specs.Parsed.{asks_options, IsUnreadable}
 use Rattle.scip_build.specs.Files.{FileContents, ReadFile}
-use Rattle.scip_build.specs.ParsedFiles.{seen_of, AreChosen, AreContentsOf, HasContents, AreParsedFiles}
+use Rattle.scip_build.specs.ParsedFiles.{AreChosen, AreContentsOf, HasContents, AreParsedFiles}
 use Rattle.scip_build.specs.Placing.{index_at}
 use Rattle.scip_build.specs.Linking.{linked_file, linked_files, choices_in, choices_of, HasFault}
-use Rattle.scip_build.specs.Documents.{asked_if, asked_in, asks_in, beside_in, known_in, text_of, texts_of, IsGapAt}
+use Rattle.scip_build.specs.Documents.{asked_if, asked_in, asks_in, beside_in, known_in, text_of, texts_of}
 use Rattle.scip_build.specs.Documents.{IsToldUse}
 use Rattle.proto_link.specs.Uncertain.{IsUncertain}
 use Rattle.scip_build.specs.Keeping.{as_left_out, linked_numbers, linked_of}
@@ -55,8 +54,9 @@ use Rattle.scip_build.specs.Kept.IsTold.{of_file, of_import, of_use, of_ambiguou
 use Rattle.proto_visibility.specs.declared.fault.LinkFault.TheVariants as link_fault
 use Rattle.scip_build.specs.Builds.{IsBuilt}
 use Rattle.scip_build.specs.Laws.{OneListOfFacts, OneBesideAFile, NoFactsWhereUnreadable, OneFileFault}
-use Rattle.scip_build.specs.BuildLaws.{SetTheSame, AllowOne, OneBuiltOfChoices, OneBuilt}
+use Rattle.scip_build.specs.BuildLaws.{TellTheSame, SetTheSame, AllowOne, OneTold, OneBuiltOfChoices, OneBuilt}
 use Rattle.scip_model.proofs.IndexSortLemmas.{one-ascending}
+use Rattle.scip_build.proofs.ChosenAlikeLemmas.{same_choices}
 use Rattle.scip_build.proofs.LinkingLemmas.{same_mapped, one_linking}
 use Rattle.scip_build.proofs.OptionGapLemmas.{gap_too, read_in, reads_of, same_asked}
 use Rattle.scip_build.proofs.ReadAlikeLemmas.{contents_at, same_in, same_known, same_reads, same_texts}
@@ -79,20 +79,6 @@ unreadable faulty dialect form allows tree parsed are number fault has =
     let Contents : Result FileContents FileFault → Type 0 = HasContents faulty dialect form allows number there.0 in
     let contents = subst Contents has.unread (are.each number there.0 has.parsed_file there.1 has.numbered).contents in
     (there.0, there.1, contents.1)
-
--- the choices for one list of declarations
-same_choices : (allows others : Seen → Choice → Type 0) → AllowOne allows others
-    → (declarations : List Declaration) (xs ys : List Choice)
-    → AreChosen allows declarations xs → AreChosen others declarations ys → xs ≡ ys
-same_choices allows others agree [] [] [] chosen also = refl
-same_choices allows others agree [] [] (y ∷ ys) chosen also = absurd also
-same_choices allows others agree [] (x ∷ xs) ys chosen also = absurd chosen
-same_choices allows others agree (d ∷ ds) [] ys chosen also = absurd chosen
-same_choices allows others agree (d ∷ ds) (x ∷ xs) [] chosen also = absurd also
-same_choices allows others agree (d ∷ ds) (x ∷ xs) (y ∷ ys) chosen also =
-    let here = agree (seen_of d) x y chosen.0 also.0 in
-    let more = same_choices allows others agree ds xs ys chosen.1 also.1 in
-    λ i. here i ∷ more i
 
 module _ (apart : NoFactsWhereUnreadable) (allows others : Seen → Choice → Type 0) (faulty another : Faulty)
     (dialect : Dialect) (form : ReadForm) where
@@ -148,10 +134,9 @@ kept_same f g said all again parsed others a b first second omissions whole =
     ∙ (sym (said_of_linked f g said b again) ∙ ap (map f) (sym second)))))
 
 module _ (one : OneListOfFacts) (one_beside : OneBesideAFile) (apart : NoFactsWhereUnreadable)
-    (one_fault : OneFileFault) (one_list : OneOmissionList) (one_index : OneIndex)
-    (allows others : Seen → Choice → Type 0)
+    (one_fault : OneFileFault) (one_list : OneOmissionList) (allows others : Seen → Choice → Type 0)
     (settings another : Settings) (tree : List TreeFile) (built other : Built)
-    (same : SetTheSame settings another) (is : IsBuilt allows settings tree built)
+    (same : TellTheSame settings another) (is : IsBuilt allows settings tree built)
     (also : IsBuilt others another tree other) where
   abbrev all : List ReadFile
   all = is.all
@@ -226,8 +211,8 @@ module _ (one : OneListOfFacts) (one_beside : OneBesideAFile) (apart : NoFactsWh
   names_are : AreRepeated (linked_files is.of_files.parsed) also.of_files.repeated
   names_are = subst (λ fs. AreRepeated fs also.of_files.repeated) (sym same_files) also.of_files.are_repeated
 
-  plain_is : built.choices ≡ other.choices → is.plain ≡ also.plain
-  plain_is choices =
+  plain_is : OneIndex → SetTheSame settings another → built.choices ≡ other.choices → is.plain ≡ also.plain
+  plain_is one_index set choices =
       let names = also.of_files.repeated in
       let asked = asked_in settings is.of_files.parsed in
       let With : Option (List OptionFacts) → Type 0 =
@@ -244,9 +229,9 @@ module _ (one : OneListOfFacts) (one_beside : OneBesideAFile) (apart : NoFactsWh
       (sym texts_are) f in
       let c = subst (λ x. Is files texts x another.package another.encoding another.project_root) (sym choices) t
       in
-      let p = subst (λ x. Is files texts built.choices x another.encoding another.project_root) (sym same.id) c in
-      let e = subst (λ x. Is files texts built.choices settings.package x another.project_root) (sym same.encoding) p in
-      let r = subst (λ x. Is files texts built.choices settings.package settings.encoding x) (sym same.project_root) e
+      let p = subst (λ x. Is files texts built.choices x another.encoding another.project_root) (sym set.id) c in
+      let e = subst (λ x. Is files texts built.choices settings.package x another.project_root) (sym set.encoding) p in
+      let r = subst (λ x. Is files texts built.choices settings.package settings.encoding x) (sym set.project_root) e
       in
       let n = same_index asked settings.package files texts built.choices settings.encoding names is.of_files.repeated
       (same_names files names is.of_files.repeated names_are is.of_files.are_repeated) settings.project_root
@@ -255,10 +240,10 @@ module _ (one : OneListOfFacts) (one_beside : OneBesideAFile) (apart : NoFactsWh
       one_index asked files texts built.choices (naming settings.package is.of_files.repeated) settings.encoding
       settings.project_root is.plain also.plain is.of_files.index n
 
-  index_is : built.choices ≡ other.choices → built.index ≡ other.index
-  index_is choices =
-      is.placed ∙ (ap (index_at settings.at) (plain_is choices)
-      ∙ (ap (λ folder. index_at folder also.plain) same.at ∙ sym also.placed))
+  index_is : OneIndex → SetTheSame settings another → built.choices ≡ other.choices → built.index ≡ other.index
+  index_is one_index set choices =
+      is.placed ∙ (ap (index_at settings.at) (plain_is one_index set choices)
+      ∙ (ap (λ folder. index_at folder also.plain) set.at ∙ sym also.placed))
 
   -- ---- what is told
 
@@ -350,36 +335,29 @@ module _ {X K : Type 0} (f : X → K) (cmp : K → K → Ordering) where
   ascends_mapped [] up = tt
   ascends_mapped (x ∷ xs) up = (all_mapped x xs up.0, ascends_mapped xs up.1)
 
-set_the_same : (settings another : Settings) → SetTheSame settings another → SetTheSame another settings
-set_the_same settings another same = record {
-  project_root = sym same.project_root;
-  at = sym same.at;
-  id = sym same.id;
-  encoding = sym same.encoding;
-  dialect = sym same.dialect;
-  form = sym same.form;
-  duplicates = sym same.duplicates;
-}
+tell_the_same : (settings another : Settings) → SetTheSame settings another → TellTheSame settings another
+tell_the_same settings another same =
+    record { dialect = same.dialect; form = same.form; duplicates = same.duplicates }
+
+turned : (settings another : Settings) → TellTheSame settings another → TellTheSame another settings
+turned settings another same =
+    record { dialect = sym same.dialect; form = sym same.form; duplicates = sym same.duplicates }
 
 module _ (one : OneListOfFacts) (one_beside : OneBesideAFile) (apart : NoFactsWhereUnreadable)
-    (one_fault : OneFileFault) (one_list : OneOmissionList) (one_index : OneIndex)
-    (allows others : Seen → Choice → Type 0) where
-  pub one_built_of_choices : OneBuiltOfChoices allows others
-  one_built_of_choices settings another tree built other same choices is also =
-      λ i. record { index = index i; choices = choices i; told = told i }
+    (one_fault : OneFileFault) (one_list : OneOmissionList) (allows others : Seen → Choice → Type 0) where
+  pub one_told_of_tree : OneTold allows others
+  one_told_of_tree settings another tree built other same is also =
+      sym (map-id built.told)
+      ∙ (same_mapped (λ (x : Omission). x) built.told other.told count at_one_place ∙ map-id other.told)
     where
-      index : built.index ≡ other.index
-      index = index_is one one_beside apart one_fault one_list one_index allows others settings another tree built
-          other same is also choices
-
       keys : map told_key built.told ≡ map told_key other.told
       keys = one-ascending key_total (map told_key built.told) (map told_key other.told)
           (ascends_mapped told_key key_cmp built.told is.of_files.kept.told_is.ascends)
           (ascends_mapped told_key key_cmp other.told also.of_files.kept.told_is.ascends)
-          (keys_there one one_beside apart one_fault one_list one_index allows others settings another tree built other
-          same is also)
-          (keys_there one one_beside apart one_fault one_list one_index others allows another settings tree other built
-          (set_the_same settings another same) also is)
+          (keys_there one one_beside apart one_fault one_list allows others settings another tree built other same is
+          also)
+          (keys_there one one_beside apart one_fault one_list others allows another settings tree other built
+          (turned settings another same) also is)
 
       -- what is at one place of the two lists is one
       at_one_place : (k : ℕ) (x y : Omission) → slice_get built.told k ≡ Some x → slice_get other.told k ≡ Some y
@@ -393,8 +371,8 @@ module _ (one : OneListOfFacts) (one_beside : OneBesideAFile) (apart : NoFactsWh
           (sym key_x ∙ (ap (λ (l : List Key). slice_get l k) keys ∙ key_y)) in
           let told_x = (is.of_files.kept.told_is.exact x).0 (contained built.told k x at) in
           let told_y = (also.of_files.kept.told_is.exact y).0 (contained other.told k y and) in
-          let too = told_too one one_beside apart one_fault one_list one_index allows others settings another tree built
-          other same is also x told_x in
+          let too = told_too one one_beside apart one_fault one_list allows others settings another tree built other
+          same is also x told_x in
           one_told another.duplicates (asks_in another) also.all also.of_files.kept.omissions
           also.of_files.kept.left_out x y too told_y
           (of_same (told_key x) (told_key y) key)
@@ -402,12 +380,20 @@ module _ (one : OneListOfFacts) (one_beside : OneBesideAFile) (apart : NoFactsWh
       count : length built.told ≡ length other.told
       count = sym (length-map built.told told_key) ∙ (ap length keys ∙ length-map other.told told_key)
 
-      told : built.told ≡ other.told
-      told = sym (map-id built.told)
-          ∙ (same_mapped (λ (x : Omission). x) built.told other.told count at_one_place ∙ map-id other.told)
+  module _ (one_index : OneIndex) where
+    pub one_built_of_choices : OneBuiltOfChoices allows others
+    one_built_of_choices settings another tree built other same choices is also =
+        λ i. record { index = index i; choices = choices i; told = told i }
+      where
+        index : built.index ≡ other.index
+        index = index_is one one_beside apart one_fault one_list allows others settings another tree built other
+            (tell_the_same settings another same) is also one_index same choices
 
-  pub one_built : OneBuilt allows others
-  one_built settings another tree built other agree same is also =
-      let choices = choices_are one one_beside apart one_fault one_list one_index allows others settings another tree
-      built other same is also agree in
-      one_built_of_choices settings another tree built other same choices is also
+        told : built.told ≡ other.told
+        told = one_told_of_tree settings another tree built other (tell_the_same settings another same) is also
+
+    pub one_built : OneBuilt allows others
+    one_built settings another tree built other agree same is also =
+        let choices = choices_are one one_beside apart one_fault one_list allows others settings another tree built
+        other (tell_the_same settings another same) is also agree in
+        one_built_of_choices settings another tree built other same choices is also

@@ -26,7 +26,7 @@ use Rattle.scip_build.specs.Linking.MayRefuseParsed.{linking_lacks_memory, is_un
 use Rattle.scip_build.specs.Documents.MayRefuseDocuments.{documents_lack_thread, documents_lack_memory}
 use Rattle.scip_build.specs.Documents.MayRefuseDocuments.{first_is_unresolved}
 use Rattle.scip_build.specs.Documents.MayRefuseLinked.{linked_lack_thread, linked_lack_memory}
-use Rattle.scip_build.specs.Documents.MayRefuseLinked.{first_is_without_target, least_is_ambiguous}
+use Rattle.scip_build.specs.Documents.MayRefuseLinked.{least_is_unresolved, least_is_ambiguous, least_is_gap}
 use Rattle.scip_build.specs.Making.MayRefuseSkipping.{skipping_lacks_thread, skipping_lacks_memory}
 use Rattle.scip_build.specs.Forms.{IsMadeOf, IsLinkedAndMade}
 use Rattle.scip_build.specs.Builds.{IsBuildFault}
@@ -49,7 +49,7 @@ told_of faulty asked parsed files workers _ told documents_lack_memory same =
     subst (MayRefuseLinked faulty asked parsed files workers) (sym same) linked_lack_memory
 told_of faulty asked parsed files workers _ told (first_is_unresolved refuse least) (inl plain) =
     subst (MayRefuseLinked faulty asked parsed files workers) (sym plain.0)
-    (first_is_without_target refuse (inl (least, plain.1)))
+    (least_is_unresolved refuse least plain.1)
 told_of faulty asked parsed files workers _ told (first_is_unresolved refuse least) (inr (inl ambiguous)) =
     subst (MayRefuseLinked faulty asked parsed files workers) (sym ambiguous.0)
     (least_is_ambiguous refuse least ambiguous.1)
@@ -63,8 +63,9 @@ of_linked : (duplicates : Duplicates) (asks : Bool) (faulty : Faulty) (parsed : 
     → MayRefuseMaking duplicates asks parsed workers told
 of_linked duplicates asks faulty parsed workers _ linked (linked_lack_thread more) = more
 of_linked duplicates asks faulty parsed workers _ linked linked_lack_memory = tt
-of_linked duplicates asks faulty parsed workers _ linked (first_is_without_target refuse first) = (linked, first)
+of_linked duplicates asks faulty parsed workers _ linked (least_is_unresolved refuse least not) = (linked, least, not)
 of_linked duplicates asks faulty parsed workers _ linked (least_is_ambiguous refuse least is) = (linked, least, is)
+of_linked duplicates asks faulty parsed workers _ linked (least_is_gap refuse least) = (linked, least)
 
 pub not_both : (faulty : Faulty) → faulty ≡ Skip → faulty ≡ Refuse → ⊥
 not_both faulty skip refuse = apart (sym skip ∙ refuse)
@@ -78,9 +79,11 @@ pub of_skipping : (faulty : Faulty) (asked : Option (List OptionFacts)) (parsed 
     → MayRefuseSkipping workers told
 of_skipping faulty asked parsed files workers _ skip (linked_lack_thread more) = skipping_lacks_thread more
 of_skipping faulty asked parsed files workers _ skip linked_lack_memory = skipping_lacks_memory
-of_skipping faulty asked parsed files workers _ skip (first_is_without_target refuse first) =
+of_skipping faulty asked parsed files workers _ skip (least_is_unresolved refuse least not) =
     absurd (not_both faulty skip refuse)
 of_skipping faulty asked parsed files workers _ skip (least_is_ambiguous refuse least is) =
+    absurd (not_both faulty skip refuse)
+of_skipping faulty asked parsed files workers _ skip (least_is_gap refuse least) =
     absurd (not_both faulty skip refuse)
 
 -- files that were linked
@@ -114,6 +117,7 @@ module _ (allows : Seen → Choice → Type 0) (settings : Settings) (tree : Lis
   of_making refuse parsed are (build.MissingImport place) is = (refuse, (parsed, are, is))
   of_making refuse parsed are (build.Unresolved place) is = (refuse, (parsed, are, is))
   of_making refuse parsed are (build.Ambiguous place) is = (refuse, (parsed, are, is))
+  of_making refuse parsed are (build.OptionGap place) is = (refuse, (parsed, are, is))
 
   -- why what is kept of them makes none
   pub of_kept : (fault : BuildFault) → MayRefuseSkipping workers fault

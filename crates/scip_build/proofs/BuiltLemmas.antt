@@ -1,5 +1,5 @@
 -- What is built of files that were read.
-use Rattle.std.proofs.Common.{◌≡◌, ◌∙◌, ◌↔◌, ℕ, List, [], ◌∷◌, length, map, sym, refl, subst}
+use Rattle.std.proofs.Common.{Bool, ◌≡◌, ◌∙◌, ◌↔◌, ℕ, List, [], ◌∷◌, length, map, sym, refl, subst}
 use Rattle.std.specs.Prelude.{Result, Ok, Err, MatchResult, IfOk, IfErr}
 use Rattle.std.specs.List.{AllZip, Contains}
 use Rattle.std.specs.List.Sorted.{IsStrictlySortedBy}
@@ -97,21 +97,22 @@ whole_built {Out} Is all settings made told refuse none of =
 -- ---- where they are skipped
 
 -- the files that are linked are those of a tree, without a clash
-pub record AreKeptOf (duplicates : Duplicates) (all parsed : List ReadFile) : Type 0 where
-  pub tree : AreOfTree parsed
+pub record AreKeptOf (links : Bool) (duplicates : Duplicates) (all parsed : List ReadFile) : Type 0 where
+  pub tree : AreOfTree links parsed
   pub clear : HaveClearNames duplicates (linked_files parsed)
 
-pub kept_ready : KeptFilesAreClear → (duplicates : Duplicates) (all parsed : List ReadFile) (omissions : Omissions)
-    → AreOfTree all → ArePresent all → AreOmissions duplicates (linked_files all) omissions
-    → parsed ≡ linked_of omissions all → AreKeptOf duplicates all parsed
-kept_ready kept_clear duplicates all parsed omissions tree present are kept =
+pub kept_ready : {links : Bool} → KeptFilesAreClear → (duplicates : Duplicates) (all parsed : List ReadFile)
+    (omissions : Omissions)
+    → AreOfTree links all → ArePresent all → AreOmissions duplicates (linked_files all) omissions
+    → parsed ≡ linked_of omissions all → AreKeptOf links duplicates all parsed
+kept_ready {links} kept_clear duplicates all parsed omissions tree present are kept =
     let (own, clear) = kept_clear duplicates (linked_files all) omissions are tree.own in
     let files = linked_is omissions all in
-    let of : AreKeptOf duplicates all (linked_of omissions all) = record {
+    let of : AreKeptOf links duplicates all (linked_of omissions all) = record {
       tree = linked_tree all omissions tree present (subst HaveOwnPaths (sym files) own);
       clear = subst (HaveClearNames duplicates) (sym files) clear;
     } in
-    subst (AreKeptOf duplicates all) (sym kept) of
+    subst (AreKeptOf links duplicates all) (sym kept) of
 
 pub kept_built : {Out : Type 0} (Is : Document → Out → Type 0) (all parsed : List ReadFile) (settings : Settings)
     (made : Made Out) (numbers : List ℕ) (left once : List Omission) (missing : List FilePlace)

@@ -145,8 +145,7 @@ module _ (omissions : Omissions) (files mended : List File) (all : AllMended fil
           (gives_to mended omissions mended_size number within_mended admits name seen gives)) in
           let its = gives_back files omissions size number within admits name (origin mended omissions seen) before in
           subst (SeesGiving (linked_of omissions files) number admits name)
-          (one_place files omissions size its.there.place_there seen its.there.within seen_in
-          (its.there.same ∙ same_origin seen)) its.gives;
+          (one_place files omissions size its.own seen its.inside seen_in (its.same ∙ same_origin seen)) its.gives;
     }
 
 -- ---- of a tree

@@ -32,7 +32,7 @@ use Rattle.scip_build.specs.Documents.{AreReady, IsDocumentAt, GivesDocument, Al
 use Rattle.scip_build.specs.Documents.{asked_in, fault_of_source, texts_of, HaveNoGaps, IsFirstPlace, IsGapAt}
 use Rattle.scip_build.specs.Documents.{IsLeastGap}
 use Rattle.scip_build.specs.Documents.{MayRefuseDocuments, MayRefuseLinked}
-use Rattle.scip_build.specs.Documents.MayRefuseLinked.{first_is_without_target}
+use Rattle.scip_build.specs.Documents.MayRefuseLinked.{least_is_gap}
 use Rattle.scip_build.specs.declared.fault.BuildFault.{BuildFault}
 use Rattle.scip_build.specs.declared.fault.BuildFault.TheVariants as build
 use Rattle.scip_build.specs.Linking.{linked_files, choices_of}
@@ -352,7 +352,7 @@ pub checked_of : {Out : Type 0} (Is : Document → Out → Type 0) (parsed : Lis
     → IsMadeInForm Is parsed named.files made.choices (with_packages settings named.ids) made.parts made.unresolved_uses
     made.option_gaps → (result : Result (Made Out) BuildFault)
     → MatchResult result (λ same. (same ≡ made) × (settings.faulty ≡ Refuse → made.option_gaps ≡ []))
-    (λ fault. (settings.faulty ≡ Refuse) × (place : FilePlace) × (fault ≡ build.Unresolved place)
+    (λ fault. (settings.faulty ≡ Refuse) × (place : FilePlace) × (fault ≡ build.OptionGap place)
     × IsFirstPlace (Contains made.option_gaps) place)
     → MatchResult result (IsMadeOf Is parsed settings)
     (MayRefuseLinked settings.faulty (asked_in settings parsed) parsed (linked_files parsed) workers)
@@ -362,14 +362,14 @@ checked_of Is parsed named settings workers made linked ids has clear choices is
 checked_of Is parsed named settings workers made linked ids has clear choices is (Err fault) (
   refuse,
   place,
-  unresolved,
+  is_gap,
   first,
 ) =
     let least = least_of Is parsed named.files made.choices (with_packages settings named.ids) made.parts
     made.unresolved_uses made.option_gaps is refuse place first in
     let there = subst (λ fs. IsLeastGap (asked_in settings parsed) parsed fs place) linked least in
     subst (MayRefuseLinked settings.faulty (asked_in settings parsed) parsed (linked_files parsed) workers)
-    (sym unresolved) (first_is_without_target refuse (inr there))
+    (sym is_gap) (least_is_gap refuse there)
 
 -- ---- where the documents are kept as they are, the parts are the index
 

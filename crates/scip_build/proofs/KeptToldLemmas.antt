@@ -25,7 +25,7 @@ use Rattle.proto_visibility.specs.declared.clash.Duplicates.{Duplicates}
 use Rattle.proto_visibility.specs.declared.clash.Duplicates.TheVariants as names
 use Rattle.proto_visibility.specs.Files as files
 use Rattle.proto_visibility.specs.Clashes.{ClashBy}
-use Rattle.proto_visibility.specs.Sees.IsReachable.{seen}
+use Rattle.proto_visibility.specs.Reaches.IsReachable.{reached}
 use Rattle.proto_visibility.specs.Absences.{IsNeeded, IsMissing, AreMissing}
 use Rattle.proto_visibility.specs.Absences.IsNeeded.{of_source, of_included}
 use Rattle.proto_visibility.specs.Kept.{Omissions, IsMet, IsOmission, AreOmissions, IsTakenBefore, Precedes, kept_of}
@@ -191,7 +191,7 @@ module _ (duplicates : Duplicates) (asks : Bool) (all : List ReadFile) (omission
       by : (number : ℕ) → IsNeeded linked number missing.import
           → (parsed_file : ReadFile) × (slice_get (kept_of omissions all) number ≡ Some parsed_file)
       by number (of_source is has listed) = parsed_file_at number is.file is.numbered is.present
-      by number (of_included (seen is sees present) has listed public) =
+      by number (of_included (reached is reaches present) has listed public) =
           parsed_file_at number present.file present.numbered present.present
 
   pub use_at : (place : FilePlace) → files.IsSource linked place.file

@@ -1,5 +1,5 @@
 -- What holds of the files of a tree holds of those that are linked.
-use Rattle.std.proofs.Common.{◌≡◌, ◌∙◌, ◌⊎◌, inl, inr, ℕ, ◌<◌, ◌≤◌, ◌+◌, ◌-◌, ◌++◌, true, false, zero, suc, List, []}
+use Rattle.std.proofs.Common.{◌≡◌, ◌∙◌, ◌⊎◌, inl, inr, ℕ, ◌<◌, ◌≤◌, ◌+◌, ◌-◌, ◌++◌, Bool, true, false, zero, suc, List, []}
 use Rattle.std.proofs.Common.{◌∷◌, length, map, Option, Some, None, ap, sym, refl, subst, append-nil, length-append, arith}
 use Rattle.std.specs.declared.cmp.Ordering.{Ordering}
 use Rattle.std.specs.declared.cmp.Ordering.TheVariants.{Less}
@@ -78,7 +78,8 @@ left_alike a b first second less =
     let one = subst (λ x. ordering_then (bool_cmp x b.is_left_out) (rest_cmp a b) ≡ Less) first less in
     subst (λ x. ordering_then (bool_cmp false x) (rest_cmp a b) ≡ Less) second one
 
-module _ (all : List ReadFile) (omissions : Omissions) (tree : AreOfTree all) (present : ArePresent all) where
+module _ {links : Bool} (all : List ReadFile) (omissions : Omissions) (tree : AreOfTree links all)
+    (present : ArePresent all) where
   abbrev kept : List ReadFile
   kept = kept_of omissions all
 
@@ -100,7 +101,7 @@ module _ (all : List ReadFile) (omissions : Omissions) (tree : AreOfTree all) (p
   ]
 
   each_of_tree : (number : ℕ) (parsed_file : ReadFile) → slice_get (linked_of omissions all) number ≡ Some parsed_file
-      → IsOfTree parsed_file
+      → IsOfTree links parsed_file
   each_of_tree number parsed_file at = elim (kept_or_left number parsed_file at) [
     | inl there ↦ tree.each (number_among_all omissions number) parsed_file
         (at_all omissions all number parsed_file there)
@@ -108,7 +109,8 @@ module _ (all : List ReadFile) (omissions : Omissions) (tree : AreOfTree all) (p
         let of = its.1 in
         let is = tree.each (left_among_all omissions (number - length kept)) of.0
         (left_at_all omissions all (number - length kept) of.0 of.1) in
-        subst IsOfTree of.2 (record { good = is.good; contents = is.contents; fields = is.fields }))
+        subst (IsOfTree links) of.2
+        (record { good = is.good; contents = is.contents; fields = is.fields; links_are = is.links_are }))
   ]
 
   rises : (lesser number : ℕ) (a b : ReadFile) → lesser < number → slice_get (linked_of omissions all) lesser ≡ Some a
@@ -141,7 +143,7 @@ module _ (all : List ReadFile) (omissions : Omissions) (tree : AreOfTree all) (p
     ]
   ]
 
-  pub linked_tree : HaveOwnPaths (linked_files (linked_of omissions all)) → AreOfTree (linked_of omissions all)
+  pub linked_tree : HaveOwnPaths (linked_files (linked_of omissions all)) → AreOfTree links (linked_of omissions all)
   linked_tree own = record {
     few = (
         let few = tree.few in

@@ -4,7 +4,8 @@ use Rattle.std.specs.List.{slice_get}
 use Rattle.std.proofs.lemmas.Bool.{cases_lt, cases_order}
 use Rattle.proto_visibility.specs.declared.omissions.FileOmission.{FileOmission}
 use Rattle.proto_visibility.specs.Files.{File}
-use Rattle.proto_visibility.specs.Sees.IsReachable.{seen}
+use Rattle.proto_visibility.specs.Reaches.Reaches.{sees}
+use Rattle.proto_visibility.specs.Reaches.IsReachable.{reached}
 use Rattle.proto_visibility.specs.Absences.{NoneBroken}
 use Rattle.proto_visibility.specs.Kept.{Omissions, kept_of, left_of, number_among_all}
 use Rattle.proto_visibility.proofs.KeptAmongLemmas.{at_all, behind, from_mapped, is_left, left_among_all}
@@ -51,7 +52,7 @@ behind_left all omissions size present read uncertain is =
           let here = present (number_among_all omissions number) of.0 (at_all omissions all number of.0 at) in
           absurd (read number (record {
             file = first.file;
-            counts = seen is.source is.behind.sees (record {
+            counts = reached is.source (sees is.behind.sees) (record {
               file = first.file;
               numbered = first.numbered;
               present = ap (λ (f : File). f.is_left_out) of.2 ∙ here;

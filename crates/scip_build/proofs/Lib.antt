@@ -36,7 +36,7 @@ pub mod LinkingRefusalRules
 -- What the phase answers, file by file
 mod ParsedFileLemmas
 -- The options of linked files, if names in options are linked
-mod LinkedOptionLemmas
+pub mod LinkedOptionLemmas
 -- What is read of a file beside its facts
 mod OptionReadingLemmas
 -- Where options have gaps is the same of files that were read alike
@@ -55,5 +55,15 @@ mod UnresolvedUseLemmas
 mod ToldUseLemmas
 -- The files of a tree as they are read are a tree
 pub mod AsReadLemmas
+-- One list of choices, where one choice alone may come
+mod ChosenAlikeLemmas
+-- What is read of files of a part of a tree, and what is built of it, as of the whole
+mod PartFileLemmas
+mod PartTreeLemmas
+mod PartGoodLemmas
+pub mod PartBuiltLemmas
+mod PartApartLemmas
+mod PartRefusedLemmas
+mod PartLawLemmas
 -- Documents stay in order where they are placed
 mod PlacingLemmas

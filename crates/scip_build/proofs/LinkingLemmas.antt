@@ -76,7 +76,14 @@ module _ (one : OneListOfFacts) (apart : NoFactsWhereUnreadable) (faulty other :
       let facts = same_facts number file a.contents b.contents reads.contents again.contents in
       let is_included = reads.is_included ∙ sym again.is_included in
       let is_left_out = reads.present ∙ sym again.present in
-      λ i. record { path = path i; facts = facts i; is_included = is_included i; is_left_out = is_left_out i }
+      let links_options = reads.links ∙ sym again.links in
+      λ i. record {
+        path = path i;
+        facts = facts i;
+        is_included = is_included i;
+        is_left_out = is_left_out i;
+        links_options = links_options i;
+      }
 
   pub one_linking : (files : List TreeFile) (parsed again : List ReadFile)
       → AreParsedFiles faulty dialect form allows files parsed → AreParsedFiles other dialect form others files again

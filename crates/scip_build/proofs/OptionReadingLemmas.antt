@@ -1,9 +1,9 @@
 -- What is read of a file beside its facts.
-use Rattle.std.proofs.Common.{◌≡◌, ◌∙◌, Bool, true, false, ℕ, List, [], ◌∷◌, map, Option, Some, ap, refl, sym, subst}
+use Rattle.std.proofs.Common.{◌≡◌, ◌∙◌, Bool, true, ℕ, List, [], ◌∷◌, map, ap, refl}
 use Rattle.std.proofs.lemmas.Bool.{false≢true}
 use Rattle.proto_lex.specs.declared.span.Span.{Span}
 use Rattle.proto_lex.specs.declared.token.Token.{Token}
-use Rattle.proto_lex.specs.Lexed.{Lexed, part_of}
+use Rattle.proto_lex.specs.Lexed.{part_of}
 use Rattle.proto_parse.specs.dialect.Dialect.{Dialect}
 use Rattle.proto_parse.specs.dialect.Dialect.TheVariants.{Proto3, All}
 use Rattle.proto_parse.specs.tree.File.{File}

@@ -4,7 +4,6 @@ use Rattle.std.proofs.Common.{length}
 use Rattle.std.proofs.Common.{map, Option, Some, None, Result, Ok, Err, ap, sym, refl, subst, arith}
 use Rattle.std.specs.List.{slice_get, prefix_len}
 use Rattle.std.specs.Option.{option_map, unwrap_or}
-use Rattle.std.specs.List.{Contains}
 use Rattle.std.specs.List.Sorted.{IsStrictlyIncreasing}
 use Rattle.std.specs.declared.cmp.Ordering.TheVariants.{Less}
 use Rattle.std.specs.Ordering.{nat_cmp, bool_cmp, ordering_then}
@@ -28,13 +27,15 @@ use Rattle.proto_decl.specs.Values.{Seen}
 use Rattle.proto_decl.specs.declared.declaration.Declaration.{Declaration}
 use Rattle.index_hooks.specs.declared.choice.Choice.{Choice}
 use Rattle.proto_visibility.specs.Files.{File, HasFacts, HaveOrigins, IsSource}
-use Rattle.proto_visibility.specs.Sees.IsReachable.{seen}
+use Rattle.proto_visibility.specs.Reaches.Reaches.{sees}
+use Rattle.proto_visibility.specs.Reaches.IsReachable.{reached}
 use Rattle.proto_visibility.specs.Sees.SeesBy.{itself}
 use Rattle.proto_visibility.specs.declared.clash.Duplicates.{Duplicates}
 use Rattle.proto_visibility.specs.Linked.{HaveClearNames}
 use Rattle.scip_symbol.specs.Path.{IsGoodPath}
 use Rattle.scip_model.specs.Chosen.{HaveChoices}
 use Rattle.scip_model.specs.Conditions.{HaveGoodPaths, AreOfText, HasText}
+use Rattle.scip_model.specs.Options.{AllLinkOptions}
 use Rattle.source_tree.specs.Files.{TreeFile, file_cmp}
 use Rattle.source_tree.specs.Trees.{IsTree}
 use Rattle.scip_build.specs.declared.faulty.Faulty.{Faulty}
@@ -176,7 +177,7 @@ module _ (faulty : Faulty) (dialect : Dialect) (form : ReadForm) (allows : Seen 
         subst (Marked a.is_left_out) (sym second.is.present)
         (subst (λ x. Marked x false) (sym first.is.present) both)
 
-    pub of_tree : AreOfTree parsed
+    pub of_tree : AreOfTree (asks_options dialect form.options) parsed
     of_tree = record {
       few = rw are.one_each is_tree.few;
       each = λ number parsed_file at.
@@ -184,6 +185,7 @@ module _ (faulty : Faulty) (dialect : Dialect) (form : ReadForm) (allows : Seen 
             good = good_at number parsed_file at;
             contents = whole_at number parsed_file at;
             fields = fields_at number parsed_file at;
+            links_are = (read_at number parsed_file at).is.links;
           };
       own = own_paths faulty dialect form allows tree parsed are is_tree.own;
       rising = rises;
@@ -261,7 +263,7 @@ module _ (parsed : List ReadFile)
 -- ---- what is known beside them
 
 -- the fields of each file stand in order
-pub in_order_of : (parsed : List ReadFile) → AreOfTree parsed → AreInOrder (known_in parsed)
+pub in_order_of : {links : Bool} (parsed : List ReadFile) → AreOfTree links parsed → AreInOrder (known_in parsed)
 in_order_of parsed tree beside there =
     let at = at_contained (known_in parsed) beside there in
     let of = mapped_at (λ (parsed_file : ReadFile). beside_in parsed_file.contents) parsed there.0 beside at in
@@ -374,7 +376,18 @@ by_path a b first second less =
     let three = subst (λ z. There a b false false z b.is_included) first.source two in
     subst (λ z. There a b false false false z) second.source three
 
-module _ (duplicates : Duplicates) (parsed : List ReadFile) (tree : AreOfTree parsed)
+-- where names in their options are linked, those of all sources are
+pub link_options : {links : Bool} (parsed : List ReadFile) → AreOfTree links parsed → links ≡ true
+    → AllLinkOptions (linked_files parsed)
+link_options parsed tree so source is =
+    let read = mapped_at linked_file parsed source is.file is.numbered in
+    record {
+      file = linked_file read.0;
+      numbered = mapped linked_file parsed source read.0 read.1;
+      links = (tree.each source read.0 read.1).links_are ∙ so;
+    }
+
+module _ {links : Bool} (duplicates : Duplicates) (parsed : List ReadFile) (tree : AreOfTree links parsed)
     (clear : HaveClearNames duplicates (linked_files parsed)) where
   abbrev count : ℕ
   count = prefix_len is_source parsed
@@ -428,8 +441,8 @@ module _ (duplicates : Duplicates) (parsed : List ReadFile) (tree : AreOfTree pa
       let numbered = mapped linked_file parsed number parsed_file at in
       absurd (clear.read number (record {
         file = file;
-        counts = seen (record { file = file; numbered = numbered; source = front.source; present = front.present })
-            itself (record { file = file; numbered = numbered; present = front.present });
+        counts = reached (record { file = file; numbered = numbered; source = front.source; present = front.present })
+            (sees itself) (record { file = file; numbered = numbered; present = front.present });
         numbered = numbered;
         unread = ap facts_in is;
       }))

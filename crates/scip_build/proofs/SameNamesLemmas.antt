@@ -41,7 +41,7 @@ use Rattle.scip_model.specs.Entries.{documentation_of}
 use Rattle.scip_model.specs.Entries as entry
 use Rattle.proto_lex.specs.declared.span.Span.{Span}
 use Rattle.option_link.specs.declared.facts.OptionFacts.{OptionFacts}
-use Rattle.scip_model.specs.Options.{NamesInOption, OccursInOptions, OccursApart, OccursWith, HasExternalOfOption}
+use Rattle.scip_model.specs.Options.{NamesInOption, OccursInOptions, OccursWith, HasExternalOfOption}
 use Rattle.scip_model.specs.Options.{HasExternalWith}
 use Rattle.scip_model.specs.Options.OccursInOptions.{of_option}
 use Rattle.scip_model.specs.Indexes.{IsAscendingListOf, IsDocumentWith, HasDocumentWith, IsIndexWith}
@@ -245,7 +245,6 @@ module _ (packages : Packages) (a b : RepeatedNames) (same : AreSame a b) (files
     listed = is.listed;
     target = is.target;
     is_target = is.is_target;
-    counts = is.counts;
     index = is.index;
     component_is = is.component_is;
     part_is = is.part_is;

@@ -12,12 +12,12 @@ use Rattle.scip_build.specs.declared.settings.Settings.{Settings}
 use Rattle.scip_build.specs.declared.built.Built.{Built}
 use Rattle.scip_build.specs.declared.fault.BuildFault.{BuildFault}
 use Rattle.scip_build.specs.declared.fault.BuildFault.TheVariants.{Spawn, Memory, File, Duplicate, MissingImport}
-use Rattle.scip_build.specs.declared.fault.BuildFault.TheVariants.{Unresolved, Ambiguous}
+use Rattle.scip_build.specs.declared.fault.BuildFault.TheVariants.{Unresolved, Ambiguous, OptionGap}
 use Rattle.scip_build.specs.declared.omission.Omission.TheVariants as omitted
 use Rattle.scip_build.specs.Builds.{IsBuilt, IsBuildFault}
 
--- What a fault names, as the linker would: of a file that can't be read its number. Lack of memory or of a thread
--- names nothing.
+-- What a fault names, as the linker would: of a file that can't be read its number, and of an option its place, as of a
+-- use. Lack of memory or of a thread names nothing.
 abbrev pub cause_of : BuildFault → LinkFault
 cause_of Spawn = link.Memory
 cause_of Memory = link.Memory
@@ -26,6 +26,7 @@ cause_of (Duplicate first second) = link.Duplicate first second
 cause_of (MissingImport place) = link.MissingImport place
 cause_of (Unresolved place) = link.Unresolved place
 cause_of (Ambiguous place) = link.Ambiguous place
+cause_of (OptionGap place) = link.Unresolved place
 
 -- the files of a tree that is built have no fault, whatever was chosen
 abbrev pub BuiltHasNoFault : (allows others : Seen → Choice → Type 0) → Type 0
@@ -40,6 +41,18 @@ OneBuildFault allows others =
     (settings : Settings) (tree : List TreeFile) (workers more : ℕ) (fault other : BuildFault)
     → IsBuildFault allows settings tree workers fault → IsBuildFault others settings tree more other
     → cause_of fault ≢ link.Memory → cause_of other ≢ link.Memory → fault ≡ other
+
+-- they read a tree alike, and let several files give one name or don't
+pub record TellTheSame (settings other : Settings) : Type 0 where
+  pub dialect : settings.dialect ≡ other.dialect
+  pub form : form_of settings ≡ form_of other
+  pub duplicates : settings.duplicates ≡ other.duplicates
+
+-- So they tell the same of a tree, whatever else they set, and whatever may be chosen.
+abbrev pub OneTold : (allows others : Seen → Choice → Type 0) → Type 0
+OneTold allows others =
+    (settings another : Settings) (tree : List TreeFile) (built other : Built) → TellTheSame settings another
+    → IsBuilt allows settings tree built → IsBuilt others another tree other → built.told ≡ other.told
 
 -- they set the same, but for what is done with faults
 pub record SetTheSame (settings other : Settings) : Type 0 where

@@ -16,13 +16,13 @@ use Rattle.scip_build.specs.declared.faulty.Faulty.TheVariants.{Refuse}
 use Rattle.scip_build.specs.declared.built.Built.{Built}
 use Rattle.scip_build.specs.declared.fault.BuildFault.{BuildFault}
 use Rattle.scip_build.specs.declared.fault.BuildFault.TheVariants.{Spawn, Memory, File, Duplicate, MissingImport}
-use Rattle.scip_build.specs.declared.fault.BuildFault.TheVariants.{Unresolved, Ambiguous}
+use Rattle.scip_build.specs.declared.fault.BuildFault.TheVariants.{Unresolved, Ambiguous, OptionGap}
 use Rattle.scip_build.specs.Files.{ReadFile}
 use Rattle.scip_build.specs.Placing.{index_at}
 use Rattle.scip_build.specs.ParsedFiles.{AreParsedFiles, IsFirstFaulty}
 use Rattle.scip_build.specs.Linking.{linked_files, choices_of, MayRefuseParsed}
 use Rattle.scip_build.specs.Documents.{texts_of, asked_in, asks_in, IsAmbiguousAt, IsLeastUnresolved}
-use Rattle.scip_build.specs.Documents.{IsUnresolvedFirst}
+use Rattle.scip_build.specs.Documents.{IsLeastGap}
 use Rattle.scip_build.specs.Kept.{AreKept, IsWithoutFault}
 
 -- What is built of files that were read: some are kept, and it is the index of these files, their texts, the recorded
@@ -79,9 +79,13 @@ IsBuildFault allows settings tree workers (MissingImport place) =
     (λ parsed. MayRefuseParsed settings.duplicates parsed (MissingImport place))
 IsBuildFault allows settings tree workers (Unresolved place) =
     (settings.faulty ≡ Refuse) × OfParsed settings.dialect (form_of settings) allows tree
-    (λ parsed. CanBeLinked settings.duplicates (linked_files parsed)
-    × IsUnresolvedFirst (asked_in settings parsed) parsed (linked_files parsed) place)
+    (λ parsed. CanBeLinked settings.duplicates (linked_files parsed) × IsLeastUnresolved (linked_files parsed) place
+    × (IsAmbiguousAt (linked_files parsed) place → ⊥))
 IsBuildFault allows settings tree workers (Ambiguous place) =
     (settings.faulty ≡ Refuse) × OfParsed settings.dialect (form_of settings) allows tree
     (λ parsed. CanBeLinked settings.duplicates (linked_files parsed) × IsLeastUnresolved (linked_files parsed) place
     × IsAmbiguousAt (linked_files parsed) place)
+IsBuildFault allows settings tree workers (OptionGap place) =
+    (settings.faulty ≡ Refuse) × OfParsed settings.dialect (form_of settings) allows tree
+    (λ parsed. CanBeLinked settings.duplicates (linked_files parsed)
+    × IsLeastGap (asked_in settings parsed) parsed (linked_files parsed) place)

@@ -214,19 +214,15 @@ IsToldFor files (build.Unresolved place) told =
     ⊎ (((told ≡ build.Ambiguous place) × IsAmbiguousAt files place) ⊎ (told ≡ build.Memory))
 IsToldFor files fault told = told ≡ fault
 
--- What is unresolved at this place: the first use that names nothing, if it isn't ambiguous; or, where each use names a
--- type, the first gap of an option.
-abbrev pub IsUnresolvedFirst : (asked : Option (List OptionFacts)) → List ReadFile → List File → FilePlace → Type 0
-IsUnresolvedFirst asked parsed files place =
-    (IsLeastUnresolved files place × (IsAmbiguousAt files place → ⊥)) ⊎ IsLeastGap asked parsed files place
-
 -- why linked files make nothing: of the first use that names nothing, if such are refused, it is told whether it is
 -- ambiguous; if there is none, it is the first gap of an option
 pub data MayRefuseLinked (faulty : Faulty) (asked : Option (List OptionFacts)) (parsed : List ReadFile)
     (files : List File) (workers : ℕ) : BuildFault → Type 0 where
   linked_lack_thread : 1 < workers → MayRefuseLinked faulty asked parsed files workers build.Spawn
   linked_lack_memory : MayRefuseLinked faulty asked parsed files workers build.Memory
-  first_is_without_target : {place : FilePlace} → faulty ≡ Refuse → IsUnresolvedFirst asked parsed files place
-      → MayRefuseLinked faulty asked parsed files workers (build.Unresolved place)
+  least_is_unresolved : {place : FilePlace} → faulty ≡ Refuse → IsLeastUnresolved files place
+      → (IsAmbiguousAt files place → ⊥) → MayRefuseLinked faulty asked parsed files workers (build.Unresolved place)
   least_is_ambiguous : {place : FilePlace} → faulty ≡ Refuse → IsLeastUnresolved files place
       → IsAmbiguousAt files place → MayRefuseLinked faulty asked parsed files workers (build.Ambiguous place)
+  least_is_gap : {place : FilePlace} → faulty ≡ Refuse → IsLeastGap asked parsed files place
+      → MayRefuseLinked faulty asked parsed files workers (build.OptionGap place)

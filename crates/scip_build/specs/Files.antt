@@ -13,9 +13,11 @@ pub record FileContents : Type 0 where
   pub choices : List Choice
   pub beside : Option OptionFacts
 
--- A file after it was read: its contents, or why it has none, and whether it is left out of what is linked.
+-- A file after it was read: its contents, or why it has none, whether it is left out of what is linked, and whether
+-- names in its options are linked.
 pub record ReadFile : Type 0 where
   pub path : List ℕ
   pub is_included : Bool
   pub is_left_out : Bool
+  pub links_options : Bool
   pub contents : Result FileContents FileFault

@@ -28,6 +28,7 @@ as_left_out parsed_file = record {
   path = parsed_file.path;
   is_included = parsed_file.is_included;
   is_left_out = true;
+  links_options = parsed_file.links_options;
   contents = parsed_file.contents;
 }
 

@@ -1,29 +1,21 @@
 -- What a use of a kept file names, among all files and among those that are kept.
-use Rattle.std.specs.Prelude.{◌≡◌, ◌<◌, ℕ, Bool, List, length, map}
+use Rattle.std.specs.Prelude.{◌≡◌, ◌<◌, ℕ, Bool, List, length}
 use Rattle.proto_decl.specs.declared.uses.Use.{Use}
-use Rattle.proto_visibility.specs.declared.lookup.Entity.{Entity}
-use Rattle.proto_visibility.specs.declared.lookup.Entity.TheVariants.{Package, Declared}
 use Rattle.proto_visibility.specs.declared.clash.Duplicates.{Duplicates}
 use Rattle.proto_visibility.specs.Files.{File}
 use Rattle.proto_visibility.specs.Kept.{Omissions, IsKeptFile, number_among_all}
 use Rattle.proto_link.specs.declared.target.Target.{Target}
 use Rattle.proto_link.specs.Targets.{IsTarget}
+use Rattle.proto_link.specs.Parts.{target_at}
 use Rattle.scip_build.specs.declared.omission.Omission.{Omission}
 use Rattle.scip_build.specs.Files.{ReadFile}
 use Rattle.scip_build.specs.Keeping.{kept_numbers}
 use Rattle.scip_build.specs.Linking.{linked_files}
 use Rattle.scip_build.specs.Kept.{AreKept}
 
--- what an entity, and what a use names among the kept files, is among all files: files have other numbers there
-abbrev pub entity_among_all : Omissions → Entity → Entity
-entity_among_all omissions (Package count) = Package count
-entity_among_all omissions (Declared number index) = Declared (number_among_all omissions number) index
-
+-- what a use names among the kept files is this among all files: files have other numbers there
 abbrev pub target_among_all : Omissions → Target → Target
-target_among_all omissions target = record {
-  name = target.name;
-  parts = map (entity_among_all omissions) target.parts;
-}
+target_among_all omissions = target_at (number_among_all omissions)
 
 -- a use of a file, by its number among all, names this, and the file that declares it is kept
 abbrev pub IsTargetOfKept : List File → Omissions → (number : ℕ) → Use → Target → Type 0

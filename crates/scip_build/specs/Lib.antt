@@ -38,6 +38,8 @@ pub mod Forms
 pub mod FactForms
 -- the same of linked sources as one
 pub mod Works
+-- parts of a tree, and what is built of them
+pub mod Parts
 -- the laws
 pub mod Laws
 pub mod BuildLaws

@@ -26,6 +26,7 @@ linked_file parsed_file = record {
   facts = facts_in parsed_file.contents;
   is_included = parsed_file.is_included;
   is_left_out = parsed_file.is_left_out;
+  links_options = parsed_file.links_options;
 }
 
 abbrev pub linked_files : List ReadFile → List File

@@ -15,7 +15,7 @@ use Rattle.scip_build.specs.declared.fault.BuildFault.TheVariants as build
 use Rattle.scip_build.specs.Files.{ReadFile}
 use Rattle.scip_build.specs.Linking.{linked_files, MayRefuseParsed}
 use Rattle.scip_build.specs.Documents.{texts_of, asked_if, asked_in, AllAreDecided, IsAmbiguousAt, IsUnresolvedAt}
-use Rattle.scip_build.specs.Documents.{IsGapAt, IsLeastUnresolved, IsUnresolvedFirst}
+use Rattle.scip_build.specs.Documents.{IsGapAt, IsLeastGap, IsLeastUnresolved}
 
 -- The index is that of the files, these are the uses of sources that name no type, none if such are refused, and these
 -- the gaps of their options.
@@ -39,11 +39,14 @@ MayRefuseMaking duplicates asks parsed workers (build.Duplicate first second) =
 MayRefuseMaking duplicates asks parsed workers (build.MissingImport place) =
     MayRefuseParsed duplicates parsed (build.MissingImport place)
 MayRefuseMaking duplicates asks parsed workers (build.Unresolved place) =
-    CanBeLinked duplicates (linked_files parsed)
-    × IsUnresolvedFirst (asked_if asks parsed) parsed (linked_files parsed) place
+    CanBeLinked duplicates (linked_files parsed) × IsLeastUnresolved (linked_files parsed) place
+    × (IsAmbiguousAt (linked_files parsed) place → ⊥)
 MayRefuseMaking duplicates asks parsed workers (build.Ambiguous place) =
     CanBeLinked duplicates (linked_files parsed) × IsLeastUnresolved (linked_files parsed) place
     × IsAmbiguousAt (linked_files parsed) place
+MayRefuseMaking duplicates asks parsed workers (build.OptionGap place) =
+    CanBeLinked duplicates (linked_files parsed)
+    × IsLeastGap (asked_if asks parsed) parsed (linked_files parsed) place
 
 -- why what is kept of a tree makes no index
 pub data MayRefuseSkipping (workers : ℕ) : BuildFault → Type 0 where

@@ -68,6 +68,7 @@ pub record IsParsedFile (faulty : Faulty) (dialect : Dialect) (form : ReadForm) 
   pub path : parsed_file.path ≡ file.path
   pub is_included : parsed_file.is_included ≡ file.is_included
   pub present : parsed_file.is_left_out ≡ false
+  pub links : parsed_file.links_options ≡ asks_options dialect form.options
   pub contents : HasContents faulty dialect form allows number file parsed_file.contents
 
 -- the files after they were read, each under its number

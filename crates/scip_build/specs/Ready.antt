@@ -1,5 +1,6 @@
--- What holds of files that were read from a tree, and so of those of them that are kept.
-use Rattle.std.specs.Prelude.{◌≡◌, ◌<◌, ◌≤◌, ℕ, false, ⊤, Result, Ok, Err, Some, List, length, map}
+-- What holds of files that were read from a tree, and so of those of them that are kept. Names in their options are
+-- linked, or not (`links`).
+use Rattle.std.specs.Prelude.{◌≡◌, ◌<◌, ◌≤◌, ℕ, Bool, false, ⊤, Result, Ok, Err, Some, List, length, map}
 use Rattle.std.specs.declared.cmp.Ordering.{Ordering}
 use Rattle.std.specs.declared.cmp.Ordering.TheVariants.{Less}
 use Rattle.std.specs.Ordering.{nat_cmp, bool_cmp, ordering_then}
@@ -31,10 +32,11 @@ AreWholeIfRead (Err fault) = ⊤
 abbrev pub HasFieldsInOrder : Result FileContents FileFault → Type 0
 HasFieldsInOrder contents = IsStrictlyIncreasing (map (λ fact. fact.name.start) (beside_in contents).fields)
 
-pub record IsOfTree (parsed_file : ReadFile) : Type 0 where
+pub record IsOfTree (links : Bool) (parsed_file : ReadFile) : Type 0 where
   pub good : IsGoodPath parsed_file.path
   pub contents : AreWholeIfRead parsed_file.contents
   pub fields : HasFieldsInOrder parsed_file.contents
+  pub links_are : parsed_file.links_options ≡ links
 
 -- sources before included files, behind these those that are left out, and each of these by path
 abbrev pub parsed_file_cmp : ReadFile → ReadFile → Ordering
@@ -46,9 +48,10 @@ abbrev pub ArePresent : List ReadFile → Type 0
 ArePresent parsed = (number : ℕ) (parsed_file : ReadFile) → slice_get parsed number ≡ Some parsed_file
     → parsed_file.is_left_out ≡ false
 
-pub record AreOfTree (parsed : List ReadFile) : Type 0 where
+pub record AreOfTree (links : Bool) (parsed : List ReadFile) : Type 0 where
   pub few : length parsed ≤ MAX_INPUTS
-  pub each : (number : ℕ) (parsed_file : ReadFile) → slice_get parsed number ≡ Some parsed_file → IsOfTree parsed_file
+  pub each : (number : ℕ) (parsed_file : ReadFile) → slice_get parsed number ≡ Some parsed_file
+      → IsOfTree links parsed_file
   pub own : link.HaveOwnPaths (linked_files parsed)
   pub rising : (lesser number : ℕ) (a b : ReadFile) → lesser < number → slice_get parsed lesser ≡ Some a
       → slice_get parsed number ≡ Some b → parsed_file_cmp a b ≡ Less

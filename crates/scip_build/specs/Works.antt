@@ -8,6 +8,7 @@ use Rattle.proto_visibility.specs.Files.{File, IsSource}
 use Rattle.scip_records.specs.declared.records.Document.{Document}
 use Rattle.scip_model.specs.Chosen.{HaveChoices}
 use Rattle.scip_model.specs.Conditions.{HaveGoodPaths, HasText}
+use Rattle.scip_model.specs.Options.{AllLinkOptions}
 use Rattle.scip_model.specs.declared.source_document.PlannedWithOptions.{PlannedWithOptions}
 use Rattle.proto_visibility.specs.declared.files.FilePlace.{FilePlace}
 use Rattle.scip_build.specs.Documents.{AreReady, GivesDocument, HasReadText, IsRead, MayRefuseDocuments, SourceWork}
@@ -22,10 +23,10 @@ use Rattle.scip_build.specs.declared.parts.Parts.{Parts}
 use Rattle.scip_build.specs.declared.source_document.NoDocument.{NoDocument}
 use denote.Ref.{Bor}
 
--- the options of these files are lent, if names in options are linked
+-- the options of these files are lent, if names in options are linked: then those of all sources are
 abbrev pub AreLent : (asked : Option (List OptionFacts)) → List File → Option (Bor LinkedOptions) → Type 0
 AreLent asked files lent = MatchOption lent (asked ≡ None)
-    (λ linked. (asked ≡ Some linked.now.known) × (linked.now.files ≡ files))
+    (λ linked. (asked ≡ Some linked.now.known) × (linked.now.files ≡ files) × AllLinkOptions files)
 
 module _ (sources : LinkedSources) where
   abbrev pub work_of : SourceWork

@@ -164,7 +164,7 @@ fn make_from<'l, 'f, R: Threads + Wait, G: Gate, F: DocumentForm + Sync>(
     form: &F,
 ) -> Result<Made<F::Kept>, BuildFault>
     requires files { linker.now ≡ linked_files parsed.now }
-    requires tree { AreOfTree parsed.now }
+    requires tree { AreOfTree (asks_in settings.now) parsed.now }
     requires clear { HaveClearNames settings.now.duplicates (linked_files parsed.now) }
     requires options { AreLent (asked_in settings.now parsed.now) linker.now options }
     ensures { MatchResult result
@@ -207,7 +207,7 @@ fn make_with<'x, R: Threads + Wait, G: Gate, F: DocumentForm + Sync>(
     form: &F,
 ) -> Result<Made<F::Kept>, BuildFault>
     requires files { linker.now ≡ linked_files parsed.now }
-    requires tree { AreOfTree parsed.now }
+    requires tree { AreOfTree (asks_in settings.now) parsed.now }
     requires clear { HaveClearNames settings.now.duplicates (linked_files parsed.now) }
     requires beside { asks_in settings.now ≡ true → beside.now ≡ known_in parsed.now }
     ensures { MatchResult result
@@ -230,7 +230,7 @@ fn make_linked<R: Threads + Wait, G: Gate, F: DocumentForm + Sync>(
     form: &F,
 ) -> Result<Made<F::Kept>, BuildFault>
     requires files { linker.now ≡ linked_files parsed.now }
-    requires tree { AreOfTree parsed.now }
+    requires tree { AreOfTree (asks_in settings.now) parsed.now }
     requires clear { HaveClearNames settings.now.duplicates (linked_files parsed.now) }
     ensures { MatchResult result
         (IsMadeOf (kept_at settings.now.at F.is_kept) parsed.now settings.now)
@@ -249,7 +249,7 @@ fn make_whole<R: Threads + Wait, G: Gate, F: DocumentForm + Sync>(
     settings: &Settings,
     form: &F,
 ) -> Result<Made<F::Kept>, BuildFault>
-    requires tree { AreOfTree parsed.now }
+    requires tree { AreOfTree (asks_in settings.now) parsed.now }
     requires refuse { settings.now.faulty ≡ Refuse }
     ensures { MatchResult result
         (IsLinkedAndMade (kept_at settings.now.at F.is_kept) parsed.now settings.now)
@@ -269,7 +269,7 @@ fn make_kept<R: Threads + Wait, G: Gate, F: DocumentForm + Sync>(
     settings: &Settings,
     form: &F,
 ) -> Result<KeptParts<F::Kept>, BuildFault>
-    requires tree { AreOfTree parsed.now }
+    requires tree { AreOfTree (asks_in settings.now) parsed.now }
     requires clear { HaveClearNames settings.now.duplicates (linked_files parsed.now) }
     requires skip { settings.now.faulty ≡ Skip }
     ensures { MatchResult result
@@ -300,7 +300,7 @@ fn build_whole<'a, R: Threads + Wait, G: Gate, F: DocumentForm + Sync>(
     settings: &Settings,
     form: &F,
 ) -> Result<BuiltParts<'a, F::Kept>, BuildFault>
-    requires tree { AreOfTree all.items }
+    requires tree { AreOfTree (asks_in settings.now) all.items }
     requires refuse { settings.now.faulty ≡ Refuse }
     ensures { MatchResult result
         (λ built. IsBuiltOfInForm (kept_at settings.now.at F.is_kept) all.entry.items settings.now built.choices
@@ -324,7 +324,7 @@ fn build_kept<'a, R: Threads + Wait, G: Gate, F: DocumentForm + Sync>(
     settings: &Settings,
     form: &F,
 ) -> Result<BuiltParts<'a, F::Kept>, BuildFault>
-    requires tree { AreOfTree all.items }
+    requires tree { AreOfTree (asks_in settings.now) all.items }
     requires present { ArePresent all.items }
     requires skip { settings.now.faulty ≡ Skip }
     ensures { MatchResult result
@@ -408,10 +408,10 @@ fn index_of(parts: Parts<Document>) -> Index
 /// occur; what is told beside the index is just these, the options that have gaps, if names in options are linked, and
 /// the uses that may name another type once a file can be read; and `Spawn` and `Memory` alone are refusals. Else
 /// nothing is told, and of the refusals the first is answered: `Spawn`, `Memory`, or the first source that can't be
-/// read; then the first included file that some source sees and that can't be read; then `Duplicate`, `MissingImport`;
-/// then `Spawn`, `Memory`, or the first use of the first source in which one names no type; then the first gap of an
-/// option. A refused growth ends the step that it is in with `Memory`. File numbers, of refusals and of what is told,
-/// are those of the tree.
+/// read; then the first included file that some source reaches and that can't be read; then `Duplicate`,
+/// `MissingImport`; then `Spawn`, `Memory`, or the first use of the first source in which one names no type; then
+/// `OptionGap`. A refused growth ends the step that it is in with `Memory`. File numbers, of refusals and of what is
+/// told, are those of the tree.
 pub fn build<R: Threads + Wait, C: Chooses + Sync, G: Gate>(
     run: &Run<'_, R, G>,
     tree: &Tree,

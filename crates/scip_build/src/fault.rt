@@ -32,7 +32,7 @@ pub enum BuildFault {
     #[error("memory ran out")]
     Memory,
     /// The number of the first source that can't be read, and why; or, if all can be, of the first included file that
-    /// some source sees and that can't be.
+    /// some source reaches and that can't be.
     #[error("in file {0}: {1}")]
     File(usize, FileFault),
     /// The places of two declarations, or of a declaration and a component of a package statement, that give one full
@@ -41,18 +41,20 @@ pub enum BuildFault {
     #[error("one full name is given twice, {0} and {1}")]
     Duplicate(FilePlace, FilePlace),
     /// The first import of a path that no file has, by its literal's place: any import of a source counts, and the
-    /// public ones of an included file that some source sees.
+    /// public ones of an included file that some source reaches.
     #[error("an import of a file that isn't there, {0}")]
     MissingImport(FilePlace),
-    /// The first use that names no type, of the first source that has one, by the place of the whole use. If each use
-    /// names a type, and names in options are linked: the first option that has a gap, by the place of the first name
-    /// in it that names nothing, and should. These places are ordered by file number, then start, then end.
+    /// The first use that names no type, of the first source that has one, by the place of the whole use.
     #[error("a use that names no type, {0}")]
     Unresolved(FilePlace),
     /// The same, if it names no type since several of the files declare it which are seen. It never comes if no two files
     /// may give one name.
     #[error("a use that names several types, {0}")]
     Ambiguous(FilePlace),
+    /// Where each use names a type, and names in options are linked: the first option that has a gap, by the place of the
+    /// first name in it that names nothing, and should. These places are ordered by file number, then start, then end.
+    #[error("an option without a target, {0}")]
+    OptionGap(FilePlace),
 }
 
 impl From<AllocError> for BuildFault {

@@ -197,11 +197,13 @@ fn read_parts<'a, C: Chooses>(
         (MayRefuseParsing reader.now.faulty reader.now.dialect
         (record { path = path.now; bytes = held; text = bytes.now; is_included = is_included })) }
 {
+    let links_options = asks_options(reader.dialect, reader.form.options);
     match contents_of(reader, number, bytes, is_included) {
         Ok(contents) => Ok(ParsedFile {
             path,
             is_included,
             is_left_out: false,
+            links_options,
             contents: Ok(contents),
         }),
         Err(NoContents::Unreadable(fault)) => {
@@ -210,6 +212,7 @@ fn read_parts<'a, C: Chooses>(
                     path,
                     is_included,
                     is_left_out: false,
+                    links_options,
                     contents: Err(fault),
                 })
             } else {

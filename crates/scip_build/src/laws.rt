@@ -1,9 +1,10 @@
 //! Laws: what the definitions say about parsed files and faults, whatever the code does.
 
-ghost use Rattle.scip_build.specs.BuildLaws.{BuiltHasNoFault, OneBuildFault, OneBuilt};
+ghost use Rattle.scip_build.specs.BuildLaws.{BuiltHasNoFault, OneBuildFault, OneBuilt, OneTold};
 ghost use Rattle.scip_build.specs.BuildLaws.{OneBuiltOfChoices, BuiltWhereNothingIsTold, BuiltAlikeIfKept};
 ghost use Rattle.scip_build.specs.Kept.{NothingIsToldOfAGoodTree};
 ghost use Rattle.scip_build.specs.KeptUses.{KeptResolvesAlike};
+ghost use Rattle.scip_build.specs.Parts.{PartsAreBuiltAlike};
 ghost use Rattle.scip_build.specs.PlacingLaws.{BuiltIsInOrder};
 ghost use Rattle.scip_build.specs.CertainUses.{CertainUsesResolveAlike};
 ghost use Rattle.scip_build.specs.Laws.{OneListOfFacts, NoFactsWhereUnreadable, LexedWhereUnparsed, OneFileFault};
@@ -11,15 +12,16 @@ ghost use Rattle.scip_build.specs.Laws.{OneBesideAFile};
 ghost use Rattle.scip_build.specs.Laws.{OneFirstFaulty, NoParsedFilesWhereFaulty, ParsedFilesHaveOwnPaths, OneLinking};
 
 use index_hooks::Chooses;
-use proto_decl::one_list_of_facts;
+use option_link::targets_are_reachable;
+use proto_decl::{names_are_identifiers, one_list_of_facts};
 use proto_lex::{one_first_fault, one_lexing};
 use proto_link::{
     certain_resolves_alike, kept_files_are_clear, nothing_is_left_out_of_good_files,
-    one_omission_list, one_refusal,
+    one_declaration_a_name, one_omission_list, one_refusal,
 };
 use proto_options::one_list_of_options;
 use proto_parse::{no_fault_where_it_derives, one_syntax_fault, one_tree};
-use scip_model::one_index;
+use scip_model::{nothing_is_repeated, one_index, symbols_name_one_entity_in_packages};
 
 /// A file has one list of facts at most.
 pub fn one_list_of_facts_a_file()
@@ -146,6 +148,18 @@ pub fn certain_uses_resolve_alike()
     certain_resolves_alike();
 }
 
+/// What is told of a tree hangs on nothing of the settings but the dialect, what is read of a file, and whether several
+/// files may give one name; nor on what is chosen. The two choosers may be one.
+pub fn one_told<C: Chooses, D: Chooses>(chooser: &C, other: &D)
+    ensures { OneTold (C.allows chooser.now) (D.allows other.now) }
+{
+    one_list_of_facts_a_file();
+    one_beside_a_file();
+    faults_exclude_facts();
+    one_fault_a_file();
+    one_omission_list();
+}
+
 /// For the same recorded choices and settings, a tree has at most one index and one list of what is told, whatever
 /// else may be chosen and whatever the workers. If only one choice may come for what is seen of a declaration, the
 /// choices are one, too. If a tree has no fault, this is the same whether faults are refused or skipped. The two
@@ -160,4 +174,23 @@ pub fn one_built<C: Chooses, D: Chooses>(chooser: &C, other: &D)
     one_fault_a_file();
     one_omission_list();
     one_index();
+}
+
+/// A part of a tree without faults has none, if it has what its sources reach, and the settings are the same. If the
+/// choices are, too, its documents are the whole's, and so are its external entries, or the whole has them in a document;
+/// and each external entry of the whole is one of the part that has its source.
+pub fn parts_are_built_alike<C: Chooses>(chooser: &C)
+    ensures { PartsAreBuiltAlike (C.allows chooser.now) }
+{
+    one_list_of_facts_a_file();
+    one_beside_a_file();
+    faults_exclude_facts();
+    nothing_is_left_out_of_good_files();
+    nothing_is_left_out_of_a_good_tree(chooser);
+    nothing_is_repeated();
+    parsed_files_have_own_paths(chooser);
+    one_declaration_a_name();
+    names_are_identifiers();
+    symbols_name_one_entity_in_packages();
+    targets_are_reachable();
 }

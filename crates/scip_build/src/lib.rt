@@ -58,7 +58,8 @@ pub use laws::{
     built_alike_if_kept, built_has_no_fault, certain_uses_resolve_alike, documents_are_in_order,
     faults_exclude_facts, kept_resolves_alike, nothing_is_left_out_of_a_good_tree,
     one_beside_a_file, one_build_fault, one_built, one_fault_a_file, one_first_faulty, one_linking,
-    one_list_of_facts_a_file, parsed_files_exclude_faults, parsed_files_have_own_paths,
+    one_list_of_facts_a_file, one_told, parsed_files_exclude_faults, parsed_files_have_own_paths,
+    parts_are_built_alike,
 };
 pub use linking::{link, linked_files};
 pub use omission::Omission;

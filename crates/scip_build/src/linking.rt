@@ -27,6 +27,7 @@ fn linked_file<'a, 'r>(parsed_file: &'a ParsedFile<'r>) -> LinkFile<'a, 'r>
         facts,
         included: parsed_file.is_included,
         left_out: parsed_file.is_left_out,
+        links_options: parsed_file.links_options,
     }
 }
 
@@ -125,7 +126,7 @@ fn linker_of<'a, 'r, R: Threads>(
 ///
 /// `files` has to be what `linked_files` gives for `parsed`, and no two may have one path.
 ///
-/// Of the refusals `File` comes first: the least included file that some source sees and that
+/// Of the refusals `File` comes first: the least included file that some source reaches and that
 /// couldn't be read. Then `Duplicate`, then `MissingImport`. `Memory` comes at any growth. `Spawn` never comes: if no
 /// thread can be started, the calling one does all.
 pub fn link<'a, 'r, R: Threads, G>(

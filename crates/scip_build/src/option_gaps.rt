@@ -3,7 +3,7 @@
 ghost use Rattle.std.specs.Prelude.{◌≡◌, ◌⊎◌, ◌↔◌, ◌∷◌, [], Contains, IsTrue, MatchOption, MatchResult};
 ghost use Rattle.proto_visibility.specs.declared.files.FilePlace.{FilePlace};
 ghost use Rattle.scip_build.specs.declared.faulty.Faulty.TheVariants.{Refuse};
-ghost use Rattle.scip_build.specs.declared.fault.BuildFault.TheVariants.{Unresolved};
+ghost use Rattle.scip_build.specs.declared.fault.BuildFault.TheVariants.{OptionGap};
 ghost use Rattle.scip_build.specs.Documents.{ComesBefore, IsFirstPlace};
 
 use crate::fault::BuildFault;
@@ -68,15 +68,15 @@ fn first_refused(faulty: Faulty, gaps: &[FilePlace]) -> Option<FilePlace>
     }
 }
 
-/// What is made, unless faults are refused and an option has a gap: then it is `Unresolved` at the first.
+/// What is made, unless faults are refused and an option has a gap: then it is `OptionGap` at the first.
 pub(crate) fn without_gaps<T: Drop>(faulty: Faulty, made: Made<T>) -> Result<Made<T>, BuildFault>
     ensures { MatchResult result
         (λ same. (same ≡ made) × (faulty ≡ Refuse → made.option_gaps ≡ []))
-        (λ fault. (faulty ≡ Refuse) × (place : FilePlace) × (fault ≡ Unresolved place)
+        (λ fault. (faulty ≡ Refuse) × (place : FilePlace) × (fault ≡ OptionGap place)
         × IsFirstPlace (Contains made.option_gaps) place) }
 {
     match first_refused(faulty, made.option_gaps.as_slice()) {
-        Some(place) => Err(BuildFault::Unresolved(place)),
+        Some(place) => Err(BuildFault::OptionGap(place)),
         None => Ok(made),
     }
 }

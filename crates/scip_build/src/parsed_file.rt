@@ -42,7 +42,8 @@ impl<'a> Model for Contents<'a> {
 
 /// A file after it was read: its contents, or why it has none; a source is without only if such are skipped.
 ///
-/// Contracts see its path's bytes, whether it is included or left out, and the contents or the fault.
+/// Contracts see its path's bytes, whether it is included or left out, whether names in its options are linked, and the
+/// contents or the fault.
 #[derive(Drop)]
 pub struct ParsedFile<'a> {
     /// Its path below its root.
@@ -51,6 +52,8 @@ pub struct ParsedFile<'a> {
     pub is_included: bool,
     /// Whether it is left out of what is linked: the names that it gives are known where it is seen, and nothing else.
     pub is_left_out: bool,
+    /// Whether names in its options are linked.
+    pub links_options: bool,
     /// Its contents, or why it can't be read.
     pub contents: Result<Contents<'a>, FileFault>,
 }
@@ -65,6 +68,7 @@ impl<'a> Model for ParsedFile<'a> {
           path = parsed_file.path.now;
           is_included = parsed_file.is_included;
           is_left_out = parsed_file.is_left_out;
+          links_options = parsed_file.links_options;
           contents
               = parsed_file.contents;
         } };
@@ -79,6 +83,7 @@ impl<'a> ParsedFile<'a> {
             path: self.path,
             is_included: self.is_included,
             is_left_out: true,
+            links_options: self.links_options,
             contents: self.contents,
         }
     }

@@ -13,7 +13,7 @@ use Rattle.scip_records.specs.declared.records.Index.{Index}
 use Rattle.scip_records.specs.declared.records.Document.{Document}
 use Rattle.scip_join.specs.declared.choices.JoinChoices.{JoinChoices}
 use Rattle.scip_join.specs.Joined.{documents_in, numbered_documents, all_externals, first_metadata}
-use Rattle.scip_join.specs.Refused.{root_of, HasOtherRoot}
+use Rattle.scip_join.specs.Refused.{contradict, encoding_of, root_of, HasOtherEncoding, HasOtherRoot}
 use Rattle.scip_join.specs.Gathered.{Gathered, gathered, piece_of, pieces_in}
 use Rattle.scip_join.specs.Steps.{IsAdded, is_other, is_other_of}
 use Rattle.scip_join.proofs.TableLemmas.{bytes_equal, equal_bytes}
@@ -132,3 +132,17 @@ module _ (choices : JoinChoices) (indexes : List Index) (index : Index) (old : G
   untold e other =
       false≢true (sym e ∙ tells ∙ subst (λ (g : Gathered). is_other g index.metadata ≡ true) (sym is)
       (told_other choices indexes index other))
+
+-- ---- so is another encoding
+
+module _ (choices : JoinChoices) (indexes : List Index) (index : Index) (old : Gathered) (b : Bool)
+    (is : old ≡ gathered choices indexes)
+    (tells : b ≡ contradict (encoding_of old.metadata) (encoding_of index.metadata)) where
+  as_first : b ≡ contradict (encoding_of (first_metadata indexes)) (encoding_of index.metadata)
+  as_first = tells ∙ ap (λ (g : Gathered). contradict (encoding_of g.metadata) (encoding_of index.metadata)) is
+
+  pub said : b ≡ true → HasOtherEncoding indexes index
+  said e = sym as_first ∙ e
+
+  pub unsaid : b ≡ false → HasOtherEncoding indexes index → ⊥
+  unsaid e other = false≢true (sym e ∙ as_first ∙ other)

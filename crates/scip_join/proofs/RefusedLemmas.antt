@@ -11,7 +11,7 @@ use Rattle.std.proofs.lemmas.List.Sums.{length-filter}
 use Rattle.scip_records.specs.declared.records.Index.{Index}
 use Rattle.scip_join.specs.declared.choices.JoinChoices.{JoinChoices}
 use Rattle.scip_join.specs.declared.join_fault.JoinFault.{JoinFault}
-use Rattle.scip_join.specs.declared.join_fault.JoinFault.TheVariants.{OtherRoot, Twice, Memory}
+use Rattle.scip_join.specs.declared.join_fault.JoinFault.TheVariants.{OtherRoot, OtherEncoding, Twice, Memory}
 use Rattle.scip_join.specs.declared.piece.Piece.{Piece}
 use Rattle.scip_join.specs.Joined.{latest_with}
 use Rattle.scip_join.specs.Refused.{IsOnce, AreOnce, IsTwice, IsAllowed, MayRefuse}
@@ -76,6 +76,7 @@ module _ (indexes : List Index) (ordered : List Piece)
 pub may_refuse : (choices : JoinChoices) (indexes : List Index) (fault : JoinFault)
     → RefusesPieces choices.replace (latest_pieces indexes) fault → MayRefuse choices indexes fault
 may_refuse choices indexes OtherRoot refused = absurd refused
+may_refuse choices indexes OtherEncoding refused = absurd refused
 may_refuse choices indexes Memory refused = tt
 may_refuse choices indexes (Twice two) refused =
     let pair = refused.refused in (
@@ -95,6 +96,7 @@ allowed choices indexes new settled = elim settled.allowed [
 pub refuses : (replace : Bool) (all ordered : List Piece) (fault : JoinFault) → IsOrdered piece_cmp all ordered
     → IsRefusedPair replace (first_pair ordered) fault → RefusesPieces replace all fault
 refuses replace all ordered OtherRoot in_order refused = absurd refused
+refuses replace all ordered OtherEncoding in_order refused = absurd refused
 refuses replace all ordered Memory in_order refused = tt
 refuses replace all ordered (Twice two) in_order refused =
     record { ordered = ordered; in_order = in_order; refused = refused }

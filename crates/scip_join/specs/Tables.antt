@@ -10,7 +10,7 @@ use denote.Ref.{Bor}
 use Rattle.scip_records.specs.declared.records.SymbolInformation.{SymbolInformation}
 use Rattle.scip_join.specs.declared.piece.Piece.{Piece}
 use Rattle.scip_join.specs.declared.join_fault.JoinFault.{JoinFault}
-use Rattle.scip_join.specs.declared.join_fault.JoinFault.TheVariants.{OtherRoot, Twice, Memory}
+use Rattle.scip_join.specs.declared.join_fault.JoinFault.TheVariants.{OtherRoot, OtherEncoding, Twice, Memory}
 use Rattle.scip_join.specs.declared.join_fault.TwoDocuments.{TwoDocuments}
 
 -- ---- pieces by path
@@ -48,6 +48,7 @@ pair_view (Some pair) = Some (pair.0.now, pair.1.now)
 -- none is to be replaced, and the fault names this pair, of which the later piece comes first; or memory ran out
 abbrev pub IsRefusedPair : (replace : Bool) → Option (Piece × Piece) → JoinFault → Type 0
 IsRefusedPair replace pair OtherRoot = ⊥
+IsRefusedPair replace pair OtherEncoding = ⊥
 IsRefusedPair replace pair (Twice two) =
     (replace ≡ false) × (later : Piece) × (earlier : Piece) × (pair ≡ Some (later, earlier))
     × (two ≡ record { path = later.path; earlier = earlier.index; later = later.index })
@@ -67,6 +68,7 @@ pub record RefusesPair (replace : Bool) (pieces : List Piece) (two : TwoDocument
 
 abbrev pub RefusesPieces : (replace : Bool) → List Piece → JoinFault → Type 0
 RefusesPieces replace pieces OtherRoot = ⊥
+RefusesPieces replace pieces OtherEncoding = ⊥
 RefusesPieces replace pieces (Twice two) = RefusesPair replace pieces two
 RefusesPieces replace pieces Memory = Unit {0}
 

@@ -7,8 +7,9 @@ ghost use Rattle.scip_wire.specs.WellFormed.{IsFitDocument};
 ghost use Rattle.scip_join.specs.Gathered.{gathered, piece_of, pieces_in};
 ghost use Rattle.scip_join.specs.Joined.{IsJoin};
 ghost use Rattle.scip_join.specs.Pieces.{ArePiecesOf};
-ghost use Rattle.scip_join.specs.Refused.{root_of, HasOtherRoot, MayRefuse, IsAllowed};
-ghost use Rattle.scip_join.specs.declared.join_fault.JoinFault.TheVariants.{OtherRoot, Memory};
+ghost use Rattle.scip_join.specs.Refused.{contradict, encoding_of, root_of, HasOtherEncoding, HasOtherRoot};
+ghost use Rattle.scip_join.specs.Refused.{IsAllowed, MayRefuse};
+ghost use Rattle.scip_join.specs.declared.join_fault.JoinFault.TheVariants.{OtherRoot, OtherEncoding, Memory};
 ghost use Rattle.scip_join.specs.Tables.{has_same_path, piece_cmp, HaveOwnPaths, IsFirstOfEach, RefusesPieces};
 ghost use Rattle.scip_join.specs.Steps.{AreKept, AreUndefined, IsAdded, IsCounted, IsSettled, are_apart, is_other};
 
@@ -60,6 +61,23 @@ fn root_of(metadata: &Option<Metadata>) -> &str
         Some(metadata) => metadata.project_root.as_str(),
         None => "",
     }
+}
+
+/// The text encoding that metadata says; 0, which says none, without metadata.
+fn encoding_of(metadata: &Option<Metadata>) -> i32
+    ensures { result ≡ encoding_of metadata.now }
+{
+    match metadata {
+        Some(metadata) => metadata.text_document_encoding,
+        None => 0,
+    }
+}
+
+/// Whether both say a text encoding, and they differ.
+fn contradict(first: i32, own: i32) -> bool
+    ensures { result ≡ contradict first own }
+{
+    first != 0 && own != 0 && first != own
 }
 
 /// Whether an index came, and another root is its own.
@@ -169,6 +187,13 @@ impl IndexJoin {
         }
     }
 
+    /// Whether this metadata says another text encoding than that of the first index.
+    fn has_other_encoding(&self, metadata: &Option<Metadata>) -> bool
+        ensures { result ≡ contradict (encoding_of self.now.metadata) (encoding_of metadata.now) }
+    {
+        contradict(encoding_of(&self.metadata), encoding_of(metadata))
+    }
+
     /// Counts one more index, with this metadata, and gives its number. That of the first is kept.
     fn count_one(&mut self, metadata: Option<Metadata>) -> Result<usize, AllocError>
         ensures { IfOk result (IsCounted self.old metadata self.new) }
@@ -202,18 +227,25 @@ impl IndexJoin {
     /// The next index comes. Its documents are spelled, and what the join doesn't need of it is let go.
     ///
     /// - `OtherRoot`: no project root is asked for, and its own isn't that of the first index. Nothing is kept of it.
+    /// - `OtherEncoding`: it says another text encoding than the first index. Nothing is kept of it.
     /// - `Memory`: memory was refused. What is kept is then of no use.
     pub fn add(&mut self, alloc: Global, index: Index) -> Result<(), JoinFault>
         ensures added { (indexes : List Index) → self.old ≡ gathered self.old.choices indexes
             → OnOk result (self.new ≡ gathered self.old.choices (indexes ++ index ∷ [])) }
         ensures other_root { (indexes : List Index) → self.old ≡ gathered self.old.choices indexes
             → (result ≡ Err OtherRoot) ↔ HasOtherRoot self.old.choices indexes index }
-        ensures refused { IfErr result (λ e. (e ≡ OtherRoot) ⊎ (e ≡ Memory)) }
-        ensures unchanged { result ≡ Err OtherRoot → self.new ≡ self.old }
+        ensures other_encoding { (indexes : List Index) → self.old ≡ gathered self.old.choices indexes
+            → (result ≡ Err OtherEncoding)
+            ↔ (HasOtherEncoding indexes index × (HasOtherRoot self.old.choices indexes index → ⊥)) }
+        ensures refused { IfErr result (λ e. (e ≡ OtherRoot) ⊎ (e ≡ OtherEncoding) ⊎ (e ≡ Memory)) }
+        ensures unchanged { IfErr result (λ e. (self.new ≡ self.old) ⊎ (e ≡ Memory)) }
         ensures known { OnOk result (All IsFitDocument index.documents) }
     {
         if self.has_other_root(&index.metadata) {
             return Err(JoinFault::OtherRoot);
+        }
+        if self.has_other_encoding(&index.metadata) {
+            return Err(JoinFault::OtherEncoding);
         }
         self.take_in(alloc, index)?;
         Ok(())

@@ -24,6 +24,9 @@ pub enum JoinFault {
     /// No project root is asked for, and an index has another one than the first.
     #[error("an index has another project root than the first one")]
     OtherRoot,
+    /// An index says another text encoding than the first.
+    #[error("an index has another text encoding than the first one")]
+    OtherEncoding,
     /// Two documents have one path, and none is to be replaced. It is the least path, by its bytes, that is there
     /// twice.
     #[error("two documents have one path")]
@@ -40,6 +43,7 @@ impl JoinFault {
     {
         match self {
             JoinFault::OtherRoot => "OtherRoot",
+            JoinFault::OtherEncoding => "OtherEncoding",
             JoinFault::Twice(_) => "Twice",
             JoinFault::Memory => "Memory",
         }

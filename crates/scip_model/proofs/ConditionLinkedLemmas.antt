@@ -1,17 +1,18 @@
--- Sources of files that can be linked: they count, and have facts.
+-- Sources of files that can be linked: they are reachable, and have facts.
 use Rattle.std.proofs.Common.{◌≡◌, ◌∙◌, ℕ, Bool, true, not, Option, Some, None, List, refl, sym}
 use Rattle.std.proofs.lemmas.Bool.{and_parts, not-true}
 use Rattle.std.specs.List.{slice_get}
 use Rattle.proto_decl.specs.Facts.{Facts}
 use Rattle.proto_visibility.specs.Files.{File, HasFacts, IsSource, IsSourceAt}
-use Rattle.proto_visibility.specs.Sees.{IsReachable}
+use Rattle.proto_visibility.specs.Reaches.{IsReachable}
+use Rattle.proto_visibility.specs.Reaches.Reaches.{sees}
 use Rattle.proto_visibility.specs.Sees.SeesBy.{itself}
-use Rattle.proto_visibility.specs.Sees.IsReachable.{seen}
+use Rattle.proto_visibility.specs.Reaches.IsReachable.{reached}
 use Rattle.proto_visibility.specs.Absences.{NoneBroken}
 
-pub source-counts : (files : List File) (source : ℕ) → IsSource files source → IsReachable files source
-source-counts files source is =
-    seen is itself (record { file = is.file; numbered = is.numbered; present = is.present })
+pub source-reachable : (files : List File) (source : ℕ) → IsSource files source → IsReachable files source
+source-reachable files source is =
+    reached is (sees itself) (record { file = is.file; numbered = is.numbered; present = is.present })
 
 -- what is said to be a source is one
 pub source-at : (files : List File) (number : ℕ) (source : Bool) → IsSourceAt files number source → source ≡ true
@@ -26,10 +27,10 @@ source-at files number source of is =
       present = not-true file.is_left_out parts.1;
     }
 
--- a file that counts has facts
-pub counted-facts : (files : List File) (number : ℕ) (file : File) → NoneBroken files → IsReachable files number
+-- a reachable file has facts
+pub reachable-facts : (files : List File) (number : ℕ) (file : File) → NoneBroken files → IsReachable files number
     → slice_get files number ≡ Some file → (facts : Facts) × HasFacts files number facts
-counted-facts files number file read is_reachable at = by file.facts refl
+reachable-facts files number file read is_reachable at = by file.facts refl
   where
     by : (o : Option Facts) → file.facts ≡ o → (facts : Facts) × HasFacts files number facts
     by None none = absurd (read number (record {
@@ -42,4 +43,5 @@ counted-facts files number file read is_reachable at = by file.facts refl
 
 pub source-facts : (files : List File) (source : ℕ) → NoneBroken files → IsSource files source
     → (facts : Facts) × HasFacts files source facts
-source-facts files source read is = counted-facts files source is.file read (source-counts files source is) is.numbered
+source-facts files source read is =
+    reachable-facts files source is.file read (source-reachable files source is) is.numbered

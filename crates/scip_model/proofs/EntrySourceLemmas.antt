@@ -46,7 +46,7 @@ use Rattle.scip_model.proofs.EntryLemmas.{in-packages, package-in, in-one}
 use Rattle.scip_model.proofs.EntryLemmas.{in-kept, kept-in, chosen-for, is-chosen}
 use Rattle.scip_model.proofs.IndexSortLemmas.{ascending-list, distinct-cons, distinct-append}
 use Rattle.scip_model.proofs.PackageLemmas.{file_good}
-use Rattle.scip_model.proofs.NamedApartLemmas.{AreApart, AreCounted, both, in-first, one-text, one-declared}
+use Rattle.scip_model.proofs.NamedApartLemmas.{AreApart, AreReachable, both, in-first, one-text, one-declared}
 
 pub infos_total : IsTotalOrder info_cmp
 infos_total = on_total (λ (i : SymbolInformation). i.symbol) nat_list_cmp_total
@@ -93,7 +93,7 @@ size-of (OfPackage components) = length components
 size-of (OfDeclaration components way) = 0
 
 module _ (files : List File) (ids : Packages) (known : AreApart files ids) (good : ArePackages ids) (source : ℕ)
-    (facts : Facts) (reachable : AreCounted files source facts) (path : IsGoodPath (path_at files source)) where
+    (facts : Facts) (reachable : AreReachable files source facts) (path : IsGoodPath (path_at files source)) where
   -- where the declarations of the source belong, and the package of the run
   abbrev home : Home
   home = home_of_file files ids source
@@ -219,7 +219,7 @@ module _ (files : List File) (ids : Packages) (known : AreApart files ids) (good
 -- ---- what the list has
 
 module _ (files : List File) (chosen : Chosen) (ids : Packages) (source : ℕ) (file : File) (facts : Facts)
-    (numbered : slice_get files source ≡ Some file) (reachable : AreCounted files source facts) where
+    (numbered : slice_get files source ≡ Some file) (reachable : AreReachable files source facts) where
   -- where the declarations of the source belong
   abbrev its-home : Home
   its-home = home_of_file files ids source

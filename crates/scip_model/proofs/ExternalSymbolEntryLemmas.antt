@@ -14,9 +14,9 @@ use Rattle.index_hooks.specs.declared.choice.Choice.{Choice}
 use Rattle.proto_decl.specs.Facts.{Facts}
 use Rattle.proto_decl.specs.declared.declaration.Declaration.{Declaration}
 use Rattle.proto_visibility.specs.Files.{File, HasFacts, IsIncludedAt}
-use Rattle.option_link.specs.Counted.{Counts}
-use Rattle.option_link.specs.Counted.Counts.{reachable}
-use Rattle.proto_visibility.specs.Sees.IsReachable.{seen}
+use Rattle.proto_visibility.specs.Reaches.{IsReachable}
+use Rattle.proto_visibility.specs.Reaches.Reaches.{sees as by_seeing}
+use Rattle.proto_visibility.specs.Reaches.IsReachable.{reached}
 use Rattle.proto_visibility.specs.Knows.{IsEntityOf}
 use Rattle.proto_visibility.specs.Knows.IsEntityOf.{packaged, declared}
 use Rattle.proto_visibility.specs.declared.lookup.Entity.{Entity}
@@ -69,18 +69,18 @@ abbrev index-of : Entity → ℕ
 index-of (link.Package count) = 0
 index-of (link.Declared file index) = index
 
--- it is there, in a file that counts
+-- it is there, in a reachable file
 pub record IsThere (files : List File) (file index : ℕ) : Type 0 where
   pub facts : Facts
   pub declaration : Declaration
   pub has : HasDeclaration files file index facts declaration
-  pub counts : Counts files file
+  pub is_reachable : IsReachable files file
 
 pub named-there : (files : List File) {owner count : ℕ} {facts : Facts} {name : List ℕ} {part : Entity} (file index : ℕ)
-    → Counts files owner → HasFacts files owner facts → IsEntityOf owner facts name count part
+    → IsReachable files owner → HasFacts files owner facts → IsEntityOf owner facts name count part
     → part ≡ link.Declared file index → IsThere files file index
-named-there files file index counts has (packaged prefix) same = cc
-named-there files {owner} {count} {facts} file index counts has
+named-there files file index is_reachable has (packaged prefix) same = cc
+named-there files {owner} {count} {facts} file index is_reachable has
     (declared {index = its} {declaration = declaration} at full) same =
     subst (λ n. IsThere files n index) (ap file-of same)
     (subst (λ n. IsThere files owner n) (ap index-of same)
@@ -88,13 +88,13 @@ named-there files {owner} {count} {facts} file index counts has
       facts = facts;
       declaration = declaration;
       has = record { has_facts = has; numbered = at };
-      counts = counts;
+      is_reachable = is_reachable;
     }))
 
 module _ (files : List File) (chosen : Chosen) where
   pub kept-there : (x : Pair) → IsThere files x.0 x.1 → IsKeptDeclaration chosen x.0 x.1 → IsKeptThere files chosen x
   kept-there x there kept = record {
-    counts = there.counts;
+    is_reachable = there.is_reachable;
     facts = there.facts;
     declaration = there.declaration;
     has = there.has;
@@ -107,7 +107,7 @@ module _ (files : List File) (chosen : Chosen) where
       let part = used.of_parts in
       let owned = used.is_target.names.owned in
       kept-there x
-      (named-there files x.0 x.1 (reachable (seen is.of_source.is_source owned.gives.sees owned.present))
+      (named-there files x.0 x.1 (reached is.of_source.is_source (by_seeing owned.gives.sees) owned.present)
       used.is_target.known (used.is_target.named part.index part.element part.stands) part.is.is) part.is.kept
 
   pub there-chosen : (x : Pair) → HaveChoices files chosen → IsKeptThere files chosen x → HasChoice chosen x.0 x.1
@@ -294,8 +294,8 @@ module _ (files : List File) (ids : Packages) (known : AreApart files ids) (good
       → x.symbol ≡ y.symbol → (p.0 ≡ q.0) × (p.1 ≡ q.1)
   symbols-differ p q x y there its a b same =
       one-declared files ids known p.0 q.0 a.facts b.facts
-      (record { counts = there.counts; known = a.has.has_facts })
-      (record { counts = its.counts; known = b.has.has_facts }) (package_of_file files ids p.0)
+      (record { is_reachable = there.is_reachable; known = a.has.has_facts })
+      (record { is_reachable = its.is_reachable; known = b.has.has_facts }) (package_of_file files ids p.0)
       (package_of_file files ids q.0) (file_good files ids p.0 good) (file_good files ids q.0 good)
       p.1 q.1 a.declaration b.declaration a.has.numbered b.has.numbered
       (sym (ap (λ (i : SymbolInformation). i.symbol) a.is) ∙ (same ∙ ap (λ (i : SymbolInformation). i.symbol) b.is))

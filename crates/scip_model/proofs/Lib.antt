@@ -64,6 +64,13 @@ pub mod OptionTargetLemmas
 pub mod PackageLemmas
 -- What two trees share has one symbol in both
 pub mod PackageMeetLemmas
+-- What is chosen, lists in order and details, of what is alike
+pub mod PartChoiceLemmas
+-- What is made of a part of files is what is made of the whole, with and without names in options
+pub mod PartLemmas
+pub mod PartOptionLemmas
+-- No document has an entry of the symbol of an external entry
+pub mod PartUndefinedLemmas
 -- Pieces of an index: which paths are marked, and what a sort by path leaves
 pub mod PieceLemmas
 -- What there is one of: merged lists of pieces, documents of a source, lists of external entries, indexes

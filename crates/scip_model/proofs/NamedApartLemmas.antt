@@ -19,11 +19,7 @@ use Rattle.proto_decl.specs.declared.declaration.DeclarationStep.{DeclarationSte
 use Rattle.proto_decl.specs.declared.declaration.Declaration.{Declaration}
 use Rattle.proto_decl.proofs.LawAncestorLemmas.{heads}
 use Rattle.proto_visibility.specs.Files.{File, HasFacts}
-use Rattle.proto_visibility.specs.Sees.{IsReachable}
-use Rattle.option_link.specs.Counted.{Counts, HasOwnNames, IsApartFromSeen}
-use Rattle.option_link.specs.Counted.Counts.{reachable as of_reachable, apart as of_own, descriptor as of_descriptor}
-use Rattle.option_link.specs.Places.{Stands, place_at}
-use Rattle.option_link.specs.declared.place.DeclaredPlace.{DeclaredPlace}
+use Rattle.proto_visibility.specs.Reaches.{IsReachable}
 use Rattle.proto_visibility.specs.declared.clash.Duplicates.TheVariants.{Keep}
 use Rattle.proto_visibility.proofs.FileFactLemmas.{one_list_of_facts}
 use Rattle.scip_symbol.specs.Package.{Package, IsPackage}
@@ -38,9 +34,9 @@ use Rattle.scip_model.specs.Repeated.{file_namespace, HasOutermost}
 use Rattle.scip_model.proofs.NamedEntityLemmas.{declaration-is}
 use Rattle.scip_model.proofs.RepeatedNamespaceLemmas.{one-namespace, namespace-no-identifier}
 
--- the facts of a file that counts
-pub record AreCounted (files : List File) (number : ℕ) (facts : Facts) : Type 0 where
-  pub counts : Counts files number
+-- the facts of a reachable file
+pub record AreReachable (files : List File) (number : ℕ) (facts : Facts) : Type 0 where
+  pub is_reachable : IsReachable files number
   pub known : HasFacts files number facts
 
 -- a declaration of the file that is in no other, with this full name
@@ -63,28 +59,6 @@ in-reachable reachable is = record {
   outermost = is.outermost;
   named = is.named;
 }
-
--- of two declarations with one full name, of which one is in a file with names of its own, both are one
-own-outermost : {files : List File} {m n : ℕ} {name : List ℕ} → HasOwnNames files m → IsOutermost files m name
-    → IsOutermost files n name → m ≡ n
-own-outermost {files} {m} {n} own is its =
-    let here = contained_at is.facts.declarations is.declaration is.listed in
-    let there = contained_at its.facts.declarations its.declaration its.listed in
-    ap (λ (at : DeclaredPlace). at.file)
-    (sym (own.own (place_at m here.0) (place_at n there.0) is.declaration its.declaration refl
-    (record { facts = is.facts; known = is.known; listed = here.1 })
-    (record { facts = its.facts; known = its.known; listed = there.1 }) (is.named ∙ sym its.named)))
-
--- so too if one is in the file that protoc comes with, the other in one that some source sees
-seen-outermost : {files : List File} {m n : ℕ} {name : List ℕ} → IsApartFromSeen files m → IsReachable files n
-    → IsOutermost files m name → IsOutermost files n name → m ≡ n
-seen-outermost {files} {m} {n} apart seen is its =
-    let here = contained_at is.facts.declarations is.declaration is.listed in
-    let there = contained_at its.facts.declarations its.declaration its.listed in
-    ap (λ (at : DeclaredPlace). at.file)
-    (sym (apart.own (place_at m here.0) (place_at n there.0) is.declaration its.declaration refl (inr seen)
-    (record { facts = is.facts; known = is.known; listed = here.1 })
-    (record { facts = its.facts; known = its.known; listed = there.1 }) (is.named ∙ sym its.named)))
 
 -- ---- the way to a declaration, and what is before it
 
@@ -163,31 +137,31 @@ from-map f (x ∷ xs) y h = elim (Contains-append_cases (f x ∷ []) (map f xs) 
 ]
 
 module _ (files : List File) (ids : Packages) (apart : AreApart files ids) where
-  held : (number : ℕ) (facts : Facts) → AreCounted files number facts → AreHeld facts.package_name facts.declarations
-  held number facts counted = apart.spelled.held facts (apart.origins number facts counted.known)
+  held : (number : ℕ) (facts : Facts) → AreReachable files number facts → AreHeld facts.package_name facts.declarations
+  held number facts reachable = apart.spelled.held facts (apart.origins number facts reachable.known)
 
-  named : (number : ℕ) (facts : Facts) (d : Declaration) → AreCounted files number facts
+  named : (number : ℕ) (facts : Facts) (d : Declaration) → AreReachable files number facts
       → Contains facts.declarations d
       → d.full_name ≡ dotted (component_names facts.package_name ++ names_of d.path)
-  named number facts d counted listed =
+  named number facts d reachable listed =
       All-contains (λ (x : Declaration). x.full_name ≡ dotted (component_names facts.package_name ++ names_of x.path))
-      facts.declarations d (AreHeld.full_names (held number facts counted)) listed
+      facts.declarations d (AreHeld.full_names (held number facts reachable)) listed
 
   -- the outermost declaration on the way to one is there
-  outermost-there : (number : ℕ) (facts : Facts) (d : Declaration) → AreCounted files number facts
+  outermost-there : (number : ℕ) (facts : Facts) (d : Declaration) → AreReachable files number facts
       → Contains facts.declarations d → IsOutermost files number (outermost_name facts d)
-  outermost-there number facts d counted listed =
+  outermost-there number facts d reachable listed =
       let some = All-contains (λ (x : Declaration). x.path ≢ []) facts.declarations d
-      (apart.spelled.paths facts (apart.origins number facts counted.known)) listed in
+      (apart.spelled.paths facts (apart.origins number facts reachable.known)) listed in
       let way = begins d.path some in
-      let holder = AreHeld.holder (held number facts counted) d (way.0 ∷ []) way.1 listed way.2 (λ e. cc) in
+      let holder = AreHeld.holder (held number facts reachable) d (way.0 ∷ []) way.1 listed way.2 (λ e. cc) in
       record {
         facts = facts;
         declaration = holder.0;
-        known = counted.known;
+        known = reachable.known;
         listed = holder.1;
         outermost = ap length holder.2;
-        named = named number facts holder.0 counted holder.1
+        named = named number facts holder.0 reachable holder.1
             ∙ (ap (λ (l : List DeclarationStep). dotted (component_names facts.package_name ++ names_of l)) holder.2
             ∙ ap (λ (names : List (List ℕ)). dotted (component_names facts.package_name ++ names))
             (sym (first-of-all d.path way.1 way.0 way.2)));
@@ -201,17 +175,10 @@ module _ (files : List File) (ids : Packages) (apart : AreApart files ids) where
       ((apart.repeated.exact later name).1 (record { has = has; earlier = earlier; before = before; had = had }))
 
   -- so they are of one file where it is repeated in neither
-  one-outermost-file : (m n : ℕ) (name : List ℕ) → Counts files m → Counts files n → IsOutermost files m name
+  one-outermost-file : (m n : ℕ) (name : List ℕ) → IsReachable files m → IsReachable files n → IsOutermost files m name
       → IsOutermost files n name → list_any (bytes_eq name) (names_at ids.repeated m) ≡ false
       → list_any (bytes_eq name) (names_at ids.repeated n) ≡ false → m ≡ n
-  one-outermost-file m n name (of_own own) b is its p q = own-outermost own is its
-  one-outermost-file m n name (of_reachable a) (of_own own) is its p q = sym (own-outermost own its is)
-  one-outermost-file m n name (of_descriptor at seen) (of_own own) is its p q = sym (own-outermost own its is)
-  one-outermost-file m n name (of_descriptor at seen) (of_reachable b) is its p q = seen-outermost seen b is its
-  one-outermost-file m n name (of_reachable a) (of_descriptor at seen) is its p q = sym (seen-outermost seen a its is)
-  one-outermost-file m n name (of_descriptor at seen) (of_descriptor there its_seen) is its p q =
-      apart.own m n at.0 there.0 at.1 there.1 (at.2 ∙ sym there.2)
-  one-outermost-file m n name (of_reachable a) (of_reachable b) is its p q = elim (cases_lt m n) [
+  one-outermost-file m n name a b is its p q = elim (cases_lt m n) [
     | inl less ↦ never (sym q ∙ repeats m n name less (in-reachable a is) (in-reachable b its))
     | inr more ↦ elim (cases_lt n m) [
       | inl less ↦ never (sym p ∙ repeats n m name less (in-reachable b its) (in-reachable a is))
@@ -223,7 +190,7 @@ module _ (files : List File) (ids : Packages) (apart : AreApart files ids) where
   path-is number facts known = ap path_if_there known.numbered
 
   -- declarations with the same before them, whose ways begin with one name, are of one file
-  one-file : (m n : ℕ) (f g : Facts) (d e : Declaration) → AreCounted files m f → AreCounted files n g
+  one-file : (m n : ℕ) (f g : Facts) (d e : Declaration) → AreReachable files m f → AreReachable files n g
       → Contains f.declarations d → Contains g.declarations e
       → namespaces_before (home_of_file files ids m) f d ≡ namespaces_before (home_of_file files ids n) g e
       → first-names d.path ≡ first-names e.path → m ≡ n
@@ -232,13 +199,13 @@ module _ (files : List File) (ids : Packages) (apart : AreApart files ids) where
       by (list_any (bytes_eq (outermost_name f d)) (names_at ids.repeated m))
       (list_any (bytes_eq (outermost_name g e)) (names_at ids.repeated n)) refl refl same
     where
-      no-package : (path : List ℕ) (number : ℕ) (facts : Facts) (rest : List (List ℕ)) → AreCounted files number facts
+      no-package : (path : List ℕ) (number : ℕ) (facts : Facts) (rest : List (List ℕ)) → AreReachable files number facts
           → file_namespace path ∷ rest ≡ component_names facts.package_name → ⊥
-      no-package path number facts rest counted e =
+      no-package path number facts rest reachable e =
           namespace-no-identifier path
           (All-head IsIdentifier (file_namespace path) rest
           (subst (All IsIdentifier) (sym e)
-          (apart.spelled.named facts (apart.origins number facts counted.known)).of_components))
+          (apart.spelled.named facts (apart.origins number facts reachable.known)).of_components))
 
       one-outermost : component_names f.package_name ≡ component_names g.package_name
           → outermost_name f d ≡ outermost_name g e
@@ -259,40 +226,20 @@ module _ (files : List File) (ids : Packages) (apart : AreApart files ids) where
       by false true p q same = absurd (no-package (path_at files n) m f (component_names g.package_name) a (sym same))
       by false false p q same =
           let one = one-outermost same in
-          one-outermost-file m n (outermost_name f d) a.counts b.counts (outermost-there m f d a listed)
+          one-outermost-file m n (outermost_name f d) a.is_reachable b.is_reachable (outermost-there m f d a listed)
           (subst (IsOutermost files n) (sym one) (outermost-there n g e b its)) p
           (subst (λ (name : List ℕ). list_any (bytes_eq name) (names_at ids.repeated n) ≡ false) (sym one) q)
 
-  one-index : (m n i j : ℕ) (f g : Facts) (d e : Declaration) → AreCounted files m f → AreCounted files n g
+  one-index : (m n i j : ℕ) (f g : Facts) (d e : Declaration) → AreReachable files m f → AreReachable files n g
       → slice_get f.declarations i ≡ Some d → slice_get g.declarations j ≡ Some e → m ≡ n
       → d.full_name ≡ e.full_name → i ≡ j
-  one-index m n i j f g d e a b at there numbers full = by a.counts b.counts
-    where
-      here : Stands files (place_at m i) d
-      here = record { facts = f; known = a.known; listed = at }
-
-      its : Stands files (place_at n j) e
-      its = record { facts = g; known = b.known; listed = there }
-
-      by : Counts files m → Counts files n → i ≡ j
-      by (of_own own) c =
-          ap (λ (place : DeclaredPlace). place.index)
-          (sym (own.own (place_at m i) (place_at n j) d e refl here its full))
-      by (of_reachable c) (of_own own) =
-          ap (λ (place : DeclaredPlace). place.index)
-          (own.own (place_at n j) (place_at m i) e d refl its here (sym full))
-      by (of_descriptor path seen) c =
-          ap (λ (place : DeclaredPlace). place.index)
-          (sym (seen.own (place_at m i) (place_at n j) d e refl (inl (sym numbers)) here its full))
-      by (of_reachable c) (of_descriptor path seen) =
-          ap (λ (place : DeclaredPlace). place.index)
-          (seen.own (place_at n j) (place_at m i) e d refl (inl numbers) its here (sym full))
-      by (of_reachable c) (of_reachable k) = (apart.one_name Keep files apart.origins apart.clear m i n j d e numbers
-          (record { facts = f; is_reachable = c; known = a.known; stands = at })
-          (record { facts = g; is_reachable = k; known = b.known; stands = there }) full).1
+  one-index m n i j f g d e a b at there numbers full =
+      (apart.one_name Keep files apart.origins apart.clear m i n j d e numbers
+      (record { facts = f; is_reachable = a.is_reachable; known = a.known; stands = at })
+      (record { facts = g; is_reachable = b.is_reachable; known = b.known; stands = there }) full).1
 
   -- in one file a full name is that of one declaration
-  one-declaration : (m n : ℕ) (f g : Facts) (i j : ℕ) (d e : Declaration) → AreCounted files m f → AreCounted files n g
+  one-declaration : (m n : ℕ) (f g : Facts) (i j : ℕ) (d e : Declaration) → AreReachable files m f → AreReachable files n g
       → slice_get f.declarations i ≡ Some d → slice_get g.declarations j ≡ Some e → m ≡ n
       → names_of d.path ≡ names_of e.path → (i ≡ j) × (d ≡ e)
   one-declaration m n f g i j d e a b at there numbers names =
@@ -309,9 +256,9 @@ module _ (files : List File) (ids : Packages) (apart : AreApart files ids) where
             (subst (λ k. slice_get f.declarations k ≡ Some d) one at)) ∙ there),
       )
 
-  -- ---- two files that count
+  -- ---- two reachable files
 
-  module _ (m n : ℕ) (f g : Facts) (a : AreCounted files m f) (b : AreCounted files n g) where
+  module _ (m n : ℕ) (f g : Facts) (a : AreReachable files m f) (b : AreReachable files n g) where
     -- their declarations
     abbrev pub both : List Entity
     both = map (declaration_in (home_of_file files ids m) f) f.declarations
@@ -335,7 +282,7 @@ module _ (files : List File) (ids : Packages) (apart : AreApart files ids) where
     record Found (y : Entity) : Type 0 where
       number : ℕ
       facts : Facts
-      counted : AreCounted files number facts
+      reachable : AreReachable files number facts
       index : ℕ
       found : Declaration
       at : slice_get facts.declarations index ≡ Some found
@@ -352,7 +299,7 @@ module _ (files : List File) (ids : Packages) (apart : AreApart files ids) where
               record {
                 number = m;
                 facts = f;
-                counted = a;
+                reachable = a;
                 index = place.0;
                 found = of.0;
                 at = place.1;
@@ -365,7 +312,7 @@ module _ (files : List File) (ids : Packages) (apart : AreApart files ids) where
               record {
                 number = n;
                 facts = g;
-                counted = b;
+                reachable = b;
                 index = place.0;
                 found = of.0;
                 at = place.1;
@@ -381,7 +328,7 @@ module _ (files : List File) (ids : Packages) (apart : AreApart files ids) where
         let of = find (OfDeclaration components (outer ++ inner)) h in
         let home = home_of_file files ids of.number in
         let way : of.found.path ≡ outer ++ inner = ap path-in of.same in
-        let other = AreHeld.holder (held of.number of.facts of.counted) of.found outer inner
+        let other = AreHeld.holder (held of.number of.facts of.reachable) of.found outer inner
         (contained of.facts.declarations of.index of.found of.at) way some in
         let first : first-names other.0.path ≡ first-names of.found.path =
         ap first-names other.2 ∙ (sym (first-outer outer inner some) ∙ ap first-names (sym way)) in
@@ -400,13 +347,13 @@ module _ (files : List File) (ids : Packages) (apart : AreApart files ids) where
         let by = find (OfDeclaration components (outer ++ other ∷ [])) k in
         let way : of.found.path ≡ outer ++ step ∷ [] = ap path-in of.same in
         let its : by.found.path ≡ outer ++ other ∷ [] = ap path-in by.same in
-        let numbers = one-file of.number by.number of.facts by.facts of.found by.found of.counted by.counted
+        let numbers = one-file of.number by.number of.facts by.facts of.found by.found of.reachable by.reachable
         (contained of.facts.declarations of.index of.found of.at)
         (contained by.facts.declarations by.index by.found by.at)
         (ap spaces-in of.same ∙ sym (ap spaces-in by.same))
         (ap first-names way ∙ (first-last outer step other e ∙ ap first-names (sym its))) in
         let one = one-declaration of.number by.number of.facts by.facts of.index by.index of.found by.found
-        of.counted by.counted of.at by.at numbers
+        of.reachable by.reachable of.at by.at numbers
         (ap names_of way ∙ (names-last outer step other e ∙ ap names_of (sym its))) in
         last-same outer step other (sym way ∙ (ap (λ (x : Declaration). x.path) one.1 ∙ its))
 

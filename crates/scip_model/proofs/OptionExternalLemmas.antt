@@ -13,9 +13,8 @@ use Rattle.proto_visibility.specs.Files.{File, IsSource}
 use Rattle.proto_visibility.specs.declared.lookup.Entity.{Entity}
 use Rattle.proto_visibility.specs.declared.lookup.Entity.TheVariants as link
 use Rattle.option_link.specs.declared.facts.OptionFacts.{OptionFacts}
-use Rattle.option_link.specs.declared.place.DeclaredPlace.{DeclaredPlace}
 use Rattle.option_link.specs.declared.target.OptionTarget.{OptionTarget}
-use Rattle.option_link.specs.Counted.{Counts}
+use Rattle.option_link.specs.Laws.{TargetsAreReachable}
 use Rattle.option_link.specs.OptionNames.{IsOptionTarget}
 use Rattle.scip_records.specs.declared.records.SymbolInformation.{SymbolInformation}
 use Rattle.scip_model.specs.Packages.{Packages}
@@ -23,28 +22,15 @@ use Rattle.scip_model.specs.Chosen.{Chosen}
 use Rattle.scip_model.specs.Named.{declaration_in, home_of_file}
 use Rattle.scip_model.specs.Entries.{IsKeptEntry}
 use Rattle.scip_model.specs.Indexes.{AreExternalsWith, IsAscendingListOf, info_cmp}
-use Rattle.scip_model.specs.Options.{HasExternalOfOption}
+use Rattle.scip_model.specs.Options.{AllLinkOptions, HasExternalOfOption}
 use Rattle.scip_model.specs.Tables.Additions.{Adds, FromFront}
-use Rattle.scip_model.specs.Tables.ExternalLists.{Pair, HasEntryAmong, IsExternal, IsKeptThere, IsOfPart, NoneIncluded}
-use Rattle.scip_model.specs.Tables.OptionListing.{IsCountedPart, IsOfName, IsOfOption, IsOfOptions, IsOfTarget}
+use Rattle.scip_model.specs.Tables.ExternalLists.{Pair, HasEntryAmong, IsExternal, IsKeptThere, NoneIncluded}
+use Rattle.scip_model.specs.Tables.OptionListing.{IsOfOption, IsOfOptions, IsOfTarget}
 use Rattle.scip_model.specs.Tables.OptionListing.{IsOptionExternal}
 use Rattle.scip_model.proofs.ExternalSymbolEntryLemmas.{external-pair, external-there, kept-there, named-there}
 use Rattle.scip_model.proofs.ExternalSymbolEntryLemmas.{pair-external, same-list}
 use Rattle.scip_model.proofs.ExternalSymbolLemmas.{adds-same}
 use Rattle.scip_model.proofs.OptionOccurLemmas.{adds-nothing, of-file}
-use Rattle.scip_model.proofs.OptionTargetLemmas.{last-part, one-last}
-
-module _ (files : List File) (chosen : Chosen) where
-  -- what is added of a name
-  pub of-name : (parts : List Entity) (at : DeclaredPlace) → IsCountedPart files parts at → (old new : List Pair)
-      → Adds (FromFront (IsOfPart files chosen) parts (length parts)) old new → Adds (IsOfName files chosen parts) old new
-  of-name parts at counted old new =
-      adds-same (FromFront (IsOfPart files chosen) parts (length parts)) (IsOfName files chosen parts) old new
-      (λ x front. record { at = at; counted = counted; of_parts = front }) (λ x is. is.of_parts)
-
-  pub no-name : (parts : List Entity) → ((at : DeclaredPlace) → IsCountedPart files parts at → ⊥) → (old : List Pair)
-      → Adds (IsOfName files chosen parts) old old
-  no-name parts none old = adds-nothing (IsOfName files chosen parts) old (λ x is. none is.at is.counted)
 
 module _ (files : List File) (known : List OptionFacts) (chosen : Chosen) where
   abbrev OfOption : (file : ℕ) → (text : List ℕ) → FileOption → Pair → Type 0
@@ -62,7 +48,7 @@ module _ (files : List File) (known : List OptionFacts) (chosen : Chosen) where
       (λ x front. record {
         target = front.element;
         is_target = (exact front.element).0 (contained targets front.index front.element front.stands);
-        of_name = front.is;
+        of_parts = front.is;
       })
       (λ x is. let place = contained_at targets is.target ((exact is.target).1 is.is_target) in
       record {
@@ -70,7 +56,7 @@ module _ (files : List File) (known : List OptionFacts) (chosen : Chosen) where
         element = is.target;
         within = slice_get_within targets place.0 is.target place.1;
         stands = place.1;
-        is = is.of_name;
+        is = is.of_parts;
       })
 
   -- of a source
@@ -137,16 +123,17 @@ module _ (files : List File) (known : List OptionFacts) (chosen : Chosen) where
   )
 
   -- what is named is there
-  pub option-there : (texts : List (List ℕ)) (count : ℕ) (x : Pair) → IsOptionExternal files known chosen texts count x
-      → IsKeptThere files chosen x
-  option-there texts count x is =
-      let of = is.of_options.of_options.is in
+  pub option-there : TargetsAreReachable → AllLinkOptions files → (texts : List (List ℕ)) (count : ℕ) (x : Pair)
+      → IsOptionExternal files known chosen texts count x → IsKeptThere files chosen x
+  option-there law linked texts count x is =
+      let its = is.of_options in
+      let of = its.of_options.is in
       let target = of.is_target in
-      let part = of.of_name.of_parts in
-      let place = one-last of.target.parts of.of_name.at target.at of.of_name.counted.last
-      (last-part files target.parts part.index part.element part.stands) in
+      let part = of.of_parts in
       kept-there files chosen x
-      (named-there files x.0 x.1 (subst (λ (at : DeclaredPlace). Counts files at.file) place of.of_name.counted.counts)
+      (named-there files x.0 x.1
+      (law files known is.file its.is_source (linked is.file its.is_source) its.text its.of_options.element of.target
+      target)
       target.parts.known (target.parts.named part.index part.element part.stands) part.is.is) part.is.kept
 
   module _ (ids : Packages) (texts : List (List ℕ)) where
@@ -172,29 +159,21 @@ module _ (files : List File) (known : List OptionFacts) (chosen : Chosen) where
               is = record {
                 target = names.target;
                 is_target = names.is_target;
-                of_name = record {
-                  at = names.is_target.at;
-                  counted = record {
-                    last = last-part files names.is_target.parts names.index (link.Declared has.number has.index)
-                        names.part_is;
-                    counts = names.counts;
-                  };
-                  of_parts = record {
-                    index = names.index;
-                    element = link.Declared has.number has.index;
-                    within = slice_get_within names.target.parts names.index (link.Declared has.number has.index)
-                        names.part_is;
-                    stands = names.part_is;
-                    is = record {
-                      is = refl;
-                      file = has.file;
-                      numbered = has.numbered;
-                      included = has.included;
-                      kept = record {
-                        choice = has.kept.choice;
-                        is_chosen = has.kept.is_chosen;
-                        keeps = has.kept.keeps;
-                      };
+                of_parts = record {
+                  index = names.index;
+                  element = link.Declared has.number has.index;
+                  within = slice_get_within names.target.parts names.index (link.Declared has.number has.index)
+                      names.part_is;
+                  stands = names.part_is;
+                  is = record {
+                    is = refl;
+                    file = has.file;
+                    numbered = has.numbered;
+                    included = has.included;
+                    kept = record {
+                      choice = has.kept.choice;
+                      is_chosen = has.kept.is_chosen;
+                      keeps = has.kept.keeps;
                     };
                   };
                 };
@@ -208,9 +187,7 @@ module _ (files : List File) (known : List OptionFacts) (chosen : Chosen) where
     pair-option count x entry is kept =
         let of = is.of_options.of_options.is in
         let target = of.is_target in
-        let part = of.of_name.of_parts in
-        let place = one-last of.target.parts of.of_name.at target.at of.of_name.counted.last
-        (last-part files target.parts part.index part.element part.stands) in
+        let part = of.of_parts in
         let component = item_at target.name.name.components part.index (omega (arith, part.within, target.parts.one_each)) in
         record {
           source = is.file;
@@ -229,7 +206,6 @@ module _ (files : List File) (known : List OptionFacts) (chosen : Chosen) where
                 is.of_options.of_options.element is.of_options.of_options.stands;
             target = of.target;
             is_target = target;
-            counts = subst (λ (at : DeclaredPlace). Counts files at.file) place of.of_name.counted.counts;
             index = part.index;
             component_is = component.1;
             part_is = part.stands ∙ ap Some part.is.is;
@@ -261,13 +237,14 @@ module _ (files : List File) (known : List OptionFacts) (chosen : Chosen) where
 
     module _ (of_uses pairs : List Pair) (uses : Adds (IsExternal files chosen (length files)) [] of_uses)
         (options : Adds (IsOptionExternal files known chosen texts (length texts)) of_uses pairs) where
-      pub all-there : (x : Pair) → Contains pairs x → IsKeptThere files chosen x
-      all-there x listed = elim ((options x).0 listed) [
+      pub all-there : TargetsAreReachable → AllLinkOptions files → (x : Pair) → Contains pairs x
+          → IsKeptThere files chosen x
+      all-there law linked x listed = elim ((options x).0 listed) [
         | inl of_use ↦ elim ((uses x).0 of_use) [
           | inl none ↦ absurd (in_nothing x none)
           | inr is ↦ external-there files chosen (length files) x is
         ]
-        | inr is ↦ option-there texts (length texts) x is
+        | inr is ↦ option-there law linked texts (length texts) x is
       ]
 
       pub all-with : (list : List SymbolInformation)

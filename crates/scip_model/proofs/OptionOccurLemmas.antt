@@ -21,7 +21,6 @@ use Rattle.proto_visibility.specs.declared.lookup.Entity.{Entity}
 use Rattle.option_link.specs.declared.facts.OptionFacts.{OptionFacts}
 use Rattle.option_link.specs.declared.place.DeclaredPlace.{DeclaredPlace}
 use Rattle.option_link.specs.declared.target.OptionTarget.{OptionTarget}
-use Rattle.option_link.specs.Counted.{Counts}
 use Rattle.option_link.specs.OptionNames.{IsOptionTarget}
 use Rattle.scip_records.specs.declared.records.Occurrence.{Occurrence}
 use Rattle.scip_symbol.specs.Entities as symbols
@@ -37,7 +36,7 @@ use Rattle.scip_model.specs.Packages.{Packages, package_of_part}
 use Rattle.scip_model.specs.Tables.Additions.{Adds, FromFront}
 use Rattle.scip_model.specs.Tables.Listing.{at_entity, at_part, each_from, entity_of, is_shown}
 use Rattle.scip_model.specs.Tables.Merges.{AreUntied, IsMergedApart}
-use Rattle.scip_model.specs.Tables.OptionListing.{IsCountedPart, OccursByOption, OccursByTarget, OccursInOptionsIf}
+use Rattle.scip_model.specs.Tables.OptionListing.{IsLastPart, OccursByOption, OccursByTarget, OccursInOptionsIf}
 use Rattle.scip_model.specs.Tables.Plans.{AddsPlanned, AreAdded, Around, Grown, occurrence_of}
 use Rattle.scip_model.proofs.ExternalSymbolLemmas.{adds-all, adds-more, adds-same}
 use Rattle.scip_model.proofs.MergeLemmas.{at_head, not_in_none}
@@ -144,15 +143,14 @@ module _ (files : List File) (known : List OptionFacts) (chosen : Chosen) (ids :
     part-at index span =
         at_part ids encoding text files chosen is.parts.declaration.full_name span (slice_get target.parts index)
 
-    entity-named : Counts files is.at.file → (o : Occurrence) (index : ℕ) (span : Span) (part : Entity)
+    entity-named : (o : Occurrence) (index : ℕ) (span : Span) (part : Entity)
         → slice_get is.name.name.components index ≡ Some span → slice_get target.parts index ≡ Some part
         → is_shown chosen part ≡ true → (e : Option symbols.Entity)
         → entity_of files ids is.parts.declaration.full_name part ≡ e
         → Contains (at_entity (package_of_part files ids part) encoding text span e) o → ByTarget option target o
-    entity-named counts o index span part c p shown None e h = absurd (not_in_none o h)
-    entity-named counts o index span part c p shown (Some entity) e h = record {
+    entity-named o index span part c p shown None e h = absurd (not_in_none o h)
+    entity-named o index span part c p shown (Some entity) e h = record {
       is_target = is;
-      counts = counts;
       span = span;
       part = part;
       entity = entity;
@@ -164,24 +162,24 @@ module _ (files : List File) (known : List OptionFacts) (chosen : Chosen) (ids :
       is = sym (only _ o h);
     }
 
-    part-named : Counts files is.at.file → (o : Occurrence) (index : ℕ) (span : Span)
+    part-named : (o : Occurrence) (index : ℕ) (span : Span)
         → slice_get is.name.name.components index ≡ Some span → (part : Option Entity)
         → slice_get target.parts index ≡ part
         → Contains (at_part ids encoding text files chosen is.parts.declaration.full_name span part) o
         → ByTarget option target o
-    part-named counts o index span c None p h = absurd (not_in_none o h)
-    part-named counts o index span c (Some part) p h =
+    part-named o index span c None p h = absurd (not_in_none o h)
+    part-named o index span c (Some part) p h =
         let shown = if_so (is_shown chosen part)
         (at_entity (package_of_part files ids part) encoding text span
         (entity_of files ids is.parts.declaration.full_name part)) o h in
-        entity-named counts o index span part c p shown.0 (entity_of files ids is.parts.declaration.full_name part) refl
+        entity-named o index span part c p shown.0 (entity_of files ids is.parts.declaration.full_name part) refl
         shown.1
 
-    pub name-occurs : Counts files is.at.file → (o : Occurrence)
+    pub name-occurs : (o : Occurrence)
         → Contains (each_from part-at 0 is.name.name.components) o → ByTarget option target o
-    name-occurs counts o h =
+    name-occurs o h =
         let k = given_at part-at is.name.name.components o h in
-        part-named counts o k.at k.item k.item_is (slice_get target.parts k.at) refl k.given
+        part-named o k.at k.item k.item_is (slice_get target.parts k.at) refl k.given
 
     pub name-listed : (o : Occurrence) → ByTarget option target o
         → Contains (each_from part-at 0 is.name.name.components) o
@@ -200,15 +198,12 @@ module _ (files : List File) (known : List OptionFacts) (chosen : Chosen) (ids :
         subst (Contains (each_from part-at 0 is.name.name.components)) (sym by.is)
         (gives_at part-at is.name.name.components made by.index by.span component part_there)
 
-  -- where nothing that counts is named nothing occurs
+  -- where nothing is named nothing occurs
   pub none-by-target : (option : FileOption) (target : OptionTarget)
-      → ((at : DeclaredPlace) → IsCountedPart files target.parts at → ⊥) → (o : Occurrence)
+      → ((at : DeclaredPlace) → IsLastPart target.parts at → ⊥) → (o : Occurrence)
       → ByTarget option target o → ⊥
   none-by-target option target none o by =
-      none by.is_target.at (record {
-        last = last-part files by.is_target.parts by.index by.part by.part_is;
-        counts = by.counts;
-      })
+      none by.is_target.at (last-part files by.is_target.parts by.index by.part by.part_is)
 
   -- ---- of an option, and of all
 
@@ -241,7 +236,6 @@ module _ (files : List File) (known : List OptionFacts) (chosen : Chosen) (ids :
         listed = its.3;
         target = its.4.target;
         is_target = by.is_target;
-        counts = by.counts;
         index = by.index;
         component_is = by.component_is;
         part_is = by.part_is;
@@ -259,7 +253,6 @@ module _ (files : List File) (known : List OptionFacts) (chosen : Chosen) (ids :
       target = names.target;
       by_target = record {
         is_target = names.is_target;
-        counts = names.counts;
         span = span;
         part = part;
         entity = entity;

@@ -1,7 +1,7 @@
 -- What names in options name, by their parts: the last one is what the name names.
 use Rattle.std.proofs.Common.{◌≡◌, ◌∙◌, ◌↔◌, sym, ap, subst, ℕ, ◌+◌, ◌-◌, ◌<◌, Option, None, Some, List, length, get_or, arith}
 use Rattle.std.specs.List.{All, Contains, slice_get}
-use Rattle.std.proofs.lemmas.Option.{get_or_from_slice_get, same_Some, slice_get-get_or, slice_get_within}
+use Rattle.std.proofs.lemmas.Option.{same_Some, slice_get-get_or, slice_get_within}
 use Rattle.basics.proofs.FirstLemmas.{contained}
 use Rattle.proto_decl.specs.Facts.{Facts}
 use Rattle.proto_decl.specs.declared.declaration.Declaration.{Declaration}
@@ -25,7 +25,7 @@ use Rattle.scip_model.specs.Named.{HasDeclaration}
 use Rattle.scip_model.specs.Tables.ExternalLists.{IsKnownPart}
 use Rattle.scip_model.specs.Tables.KnownFacts.{AreIdentifiers}
 use Rattle.scip_model.specs.Tables.Listing.{IsNameable}
-use Rattle.scip_model.specs.Tables.OptionListing.{IsCountedPart, IsCountedPlace, IsLastPart, TellsGap}
+use Rattle.scip_model.specs.Tables.OptionListing.{IsLastPart, TellsGap}
 use Rattle.scip_model.proofs.ExternalSymbolLemmas.{known-part}
 use Rattle.scip_model.proofs.ListingNameableLemmas.{declared_all, part_nameable}
 
@@ -49,20 +49,6 @@ one-last parts a b x y =
     let index : x.index ≡ y.index = omega (arith, x.last, y.last) in
     one-place a b (sym x.is ∙ (ap (slice_get parts) index ∙ y.is))
 
--- what is found of a place
-module _ (linked files : List File) (same : linked ≡ files) (parts : List Entity) where
-  pub counted-some : (found : Option DeclaredPlace) (at : DeclaredPlace) → IsCountedPlace linked parts found
-      → found ≡ Some at → IsCountedPart files parts at
-  counted-some found at counted is =
-      subst (λ (list : List File). IsCountedPart list parts at) same
-      (subst (λ (o : Option DeclaredPlace). IsCountedPlace linked parts o) is counted)
-
-  pub counted-none : (found : Option DeclaredPlace) → IsCountedPlace linked parts found → found ≡ None
-      → (at : DeclaredPlace) → IsCountedPart files parts at → ⊥
-  counted-none found counted is at has =
-      (subst (λ (o : Option DeclaredPlace). IsCountedPlace linked parts o) is counted) at
-      (subst (λ (list : List File). IsCountedPart list parts at) (sym same) has)
-
 -- what is said of options of the same files, with the text that was read
 module _ (linked files : List File) (same : linked ≡ files) (known : List OptionFacts) (file : ℕ) (read text : List ℕ)
     (is_read : read ≡ text) (option : FileOption) where
@@ -78,14 +64,6 @@ module _ (linked files : List File) (same : linked ≡ files) (known : List Opti
   its-gap gap tells =
       subst (λ (its : List ℕ). TellsGap files known file its option gap) is_read
       (subst (λ (list : List File). TellsGap list known file read option gap) same tells)
-
--- the last of known parts is of one of the files
-pub last-within : (files : List File) (chosen : Chosen) (parts : List Entity) → All (IsKnownPart files chosen) parts
-    → (at : DeclaredPlace) → IsLastPart parts at → at.file < length files
-last-within files chosen parts all at last =
-    let part = link.Declared at.file at.index in
-    (subst (IsKnownPart files chosen) (get_or_from_slice_get parts last.index part part last.is)
-    (all last.index part (slice_get_within parts last.index part last.is))).0
 
 module _ (files : List File) {name : OptionName} {at : DeclaredPlace} {parts : List Entity}
     (named : NamesParts files name at parts) where
@@ -109,11 +87,6 @@ module _ (files : List File) {name : OptionName} {at : DeclaredPlace} {parts : L
   declared-at place last =
       subst (λ (p : DeclaredPlace). HasDeclaration files p.file p.index named.stands.facts named.declaration)
       (sym (place-is place last)) declared-there
-
-  pub place-within : (place : DeclaredPlace) → IsLastPart parts place → place.file < length files
-  place-within place last =
-      let has = (declared-at place last).has_facts in
-      slice_get_within files place.file has.file has.numbered
 
   -- all its parts are known, and have symbols
   pub all-known : (chosen : Chosen) → HaveChoices files chosen → All (IsKnownPart files chosen) parts

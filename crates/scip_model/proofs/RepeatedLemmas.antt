@@ -17,8 +17,8 @@ use Rattle.basics.proofs.ListLemmas.{in_front, in_nothing, only}
 use Rattle.proto_decl.specs.Facts.{Facts}
 use Rattle.proto_decl.specs.declared.declaration.Declaration.{Declaration}
 use Rattle.proto_visibility.specs.Files.{File, HasFacts}
-use Rattle.proto_visibility.specs.Sees.{IsReachable}
-use Rattle.proto_visibility.specs.Sees.IsReachable.{seen}
+use Rattle.proto_visibility.specs.Reaches.{IsReachable}
+use Rattle.proto_visibility.specs.Reaches.IsReachable.{reached}
 use Rattle.proto_visibility.specs.Clashes.{NoClash, Item}
 use Rattle.proto_visibility.specs.Clashes.IsItemBy.{declared}
 use Rattle.proto_visibility.specs.declared.clash.Duplicates.TheVariants.{Refuse}
@@ -283,7 +283,7 @@ module _ (numbers : List ℕ) (count last : ℕ) (there : slice_get numbers coun
 
 module _ (files : List File) where
   pub is-there : (number : ℕ) → IsReachable files number → number < length files
-  is-there number (seen source sees present) = slice_get_within files number present.file present.numbered
+  is-there number (reached source reaches present) = slice_get_within files number present.file present.numbered
 
   -- what a reachable file has outermost
   has-outermost : (number : ℕ) (name : List ℕ) → IsReachable files number

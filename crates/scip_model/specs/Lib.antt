@@ -29,6 +29,8 @@ pub mod Indexes
 pub mod Makers
 -- documents put together, and what is said about why they are not
 pub mod Pieces
+-- what is made of a part of files
+pub mod Parts
 -- what is law of them
 pub mod Laws
 -- what the code lists and marks

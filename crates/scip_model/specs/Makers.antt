@@ -14,6 +14,7 @@ use Rattle.proto_decl.specs.declared.uses.Component.{Component}
 use Rattle.proto_decl.specs.declared.uses.Use.{Use}
 use Rattle.proto_link.specs.declared.target.Target.{Target}
 use Rattle.proto_visibility.specs.Files.{HasFacts, HasPathAt, IsSource}
+use Rattle.proto_visibility.specs.Reaches.{LinksOptions}
 use Rattle.proto_visibility.specs.declared.lookup.Entity.{Entity}
 use Rattle.proto_visibility.specs.declared.fault.LinkFault.{LinkFault}
 use Rattle.scip_records.specs.declared.records.Document.{Document}
@@ -190,9 +191,9 @@ module _ (maker : DocumentMaker) where
 
   -- ---- its options, if names in them are linked
 
-  -- of the same files
+  -- of the same files, of which those of the source are linked
   abbrev pub HasOptions : LinkedOptions → Type 0
-  HasOptions options = options.files ≡ maker.package.now.files
+  HasOptions options = (options.files ≡ maker.package.now.files) × LinksOptions maker.package.now.files maker.source
 
   abbrev pub IsItsOptionTarget : (known : List OptionFacts) → FileOption → OptionTarget → Type 0
   IsItsOptionTarget known = IsOptionTarget maker.package.now.files known maker.source maker.text.now

@@ -11,9 +11,9 @@ use Rattle.proto_options.specs.declared.names.OptionName.{OptionName}
 use Rattle.proto_options.specs.declared.options.FileOption.{FileOption}
 use Rattle.option_link.specs.declared.facts.OptionFacts.{OptionFacts}
 use Rattle.option_link.specs.declared.target.OptionTarget.{OptionTarget}
-use Rattle.option_link.specs.Counted.{Counts}
 use Rattle.option_link.specs.OptionNames.{IsOptionTarget, IsGap}
 use Rattle.proto_visibility.specs.Files.{File, IsSource}
+use Rattle.proto_visibility.specs.Reaches.{LinksOptions}
 use Rattle.proto_visibility.specs.declared.lookup.Entity.{Entity}
 use Rattle.proto_visibility.specs.declared.lookup.Entity.TheVariants as link
 use Rattle.scip_records.specs.declared.records.Occurrence.{Occurrence}
@@ -25,8 +25,12 @@ use Rattle.scip_model.specs.Named.{IsNamedAs}
 use Rattle.scip_model.specs.Occurs.{Occurs, IsShown, occurrence_over, no_role}
 use Rattle.scip_model.specs.Entries.{HasExternal, IsKeptEntry}
 
+-- where names in options are asked for, those of all sources are linked
+abbrev pub AllLinkOptions : List File → Type 0
+AllLinkOptions files = (source : ℕ) → IsSource files source → LinksOptions files source
+
 -- A component of a name in an option of a file, which has this text, names an entity: of the linker's, and of those
--- that have symbols. What the name names is in a file that counts.
+-- that have symbols.
 pub record NamesInOption (files : List File) (known : List OptionFacts) (ids : Packages) (file : ℕ) (text : List ℕ)
     (span : Span) (part : Entity) (entity : symbols.Entity) : Type 0 where
   pub beside : OptionFacts
@@ -35,7 +39,6 @@ pub record NamesInOption (files : List File) (known : List OptionFacts) (ids : P
   pub listed : Contains beside.options option
   pub target : OptionTarget
   pub is_target : IsOptionTarget files known file text option target
-  pub counts : Counts files is_target.at.file
   pub index : ℕ
   pub component_is : slice_get is_target.name.name.components index ≡ Some span
   pub part_is : slice_get target.parts index ≡ Some part

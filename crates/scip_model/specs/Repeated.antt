@@ -9,7 +9,7 @@ use Rattle.proto_decl.specs.Facts.{Facts}
 use Rattle.proto_decl.specs.Laws.{component_names}
 use Rattle.proto_decl.specs.declared.declaration.Declaration.{Declaration}
 use Rattle.proto_visibility.specs.Files.{File, HasFacts}
-use Rattle.proto_visibility.specs.Sees.{IsReachable}
+use Rattle.proto_visibility.specs.Reaches.{IsReachable}
 use Rattle.scip_symbol.specs.Entities.{Entity, OfDeclaration}
 use Rattle.scip_symbol.specs.Package.{Package}
 use Rattle.scip_model.specs.Packages.{Packages, RepeatedNames, names_at, package_of_file, path_at}

@@ -3,56 +3,36 @@
 ghost use Rattle.std.specs.Prelude.{◌≡◌, ◌<◌, ℕ, Some, List, OnOk, IfOk, All, length, map};
 ghost use Rattle.std.specs.List.{slice_get};
 ghost use Rattle.proto_visibility.specs.Files.{IsSource};
+ghost use Rattle.proto_visibility.specs.Reaches.{LinksOptions};
 ghost use Rattle.scip_model.specs.Chosen.{HaveChoices};
 ghost use Rattle.scip_model.specs.Indexes.{AreExternalsWith};
+ghost use Rattle.scip_model.specs.Options.{AllLinkOptions};
 ghost use Rattle.scip_model.specs.Tables.Additions.{Adds, FromFront};
-ghost use Rattle.scip_model.specs.Tables.ExternalLists.{IsKnownPart};
-ghost use Rattle.scip_model.specs.Tables.OptionListing.{AreKnownParts, IsOfName, IsOfOptions, IsOfTarget};
+ghost use Rattle.scip_model.specs.Tables.OptionListing.{AreKnownParts, IsOfOptions, IsOfTarget};
 ghost use Rattle.scip_model.specs.Tables.OptionListing.{IsOptionExternal};
 
 use crate::document_maker::Choices;
 use crate::external_symbols::{entries_by_symbol, first_included, named_externals, push_parts};
 use crate::naming::SymbolPackages;
-use crate::targets::counted_place;
 use basics::Sequence;
-use option_link::{OptionLinker, OptionTarget};
-use proto_link::{Entity, Linker};
+use option_link::{OptionLinker, OptionTarget, targets_are_reachable};
+use proto_link::Linker;
 use scip_records::SymbolInformation;
 use std::alloc::{AllocError, Global};
-
-/// Adds those of the parts of a name, if what it names is in a file that counts.
-fn push_name(
-    named: &mut Vec<(usize, usize)>,
-    linker: &Linker<'_, '_>,
-    choices: &Choices,
-    options: &OptionLinker<'_, '_, '_>,
-    parts: &[Entity],
-) -> Result<(), AllocError>
-    requires files { options.now.files ≡ linker.now }
-    requires parts { All (IsKnownPart linker.now choices.now) parts.now }
-    ensures { OnOk result (Adds (IsOfName linker.now choices.now parts.now) named.old.items named.new.items) }
-{
-    match counted_place(options, parts) {
-        Some(_place) => push_parts(named, linker, choices, parts),
-        None => Ok(()),
-    }
-}
 
 /// Adds those that names with these targets name.
 fn push_targets(
     named: &mut Vec<(usize, usize)>,
     linker: &Linker<'_, '_>,
     choices: &Choices,
-    options: &OptionLinker<'_, '_, '_>,
     targets: &[OptionTarget],
 ) -> Result<(), AllocError>
-    requires files { options.now.files ≡ linker.now }
-    requires parts { All (AreKnownParts linker.now choices.now) targets.now }
+    requires { All (AreKnownParts linker.now choices.now) targets.now }
     ensures { OnOk result (Adds (FromFront (IsOfTarget linker.now choices.now) targets.now (length targets.now))
         named.old.items named.new.items) }
 {
     for target in targets {
-        push_name(named, linker, choices, options, target.parts.as_slice())?;
+        push_parts(named, linker, choices, target.parts.as_slice())?;
     }
     Ok(())
 }
@@ -69,12 +49,13 @@ fn push_options(
     requires files { options.now.files ≡ linker.now }
     requires choices { HaveChoices linker.now choices.now }
     requires source { IsSource linker.now source }
+    requires links { LinksOptions linker.now source }
     ensures { OnOk result ((texts : List (List ℕ)) → slice_get texts source ≡ Some text.now
         → Adds (IsOfOptions linker.now options.now.known choices.now texts source) named.old.items named.new.items) }
 {
     for option in options.options_of(source) {
         let found = (&*options).targets(*named.allocator(), source, &*text, option)?;
-        push_targets(named, linker, choices, options, found.targets.as_slice())?;
+        push_targets(named, linker, choices, found.targets.as_slice())?;
     }
     Ok(())
 }
@@ -91,6 +72,7 @@ fn push_file(
     requires files { options.now.files ≡ linker.now }
     requires choices { HaveChoices linker.now choices.now }
     requires within { file < length linker.now }
+    requires linked { AllLinkOptions linker.now }
     ensures { OnOk result ((texts : List (List ℕ)) → slice_get texts file ≡ Some text.now
         → Adds (IsOfOptions linker.now options.now.known choices.now texts file) named.old.items named.new.items) }
 {
@@ -111,6 +93,7 @@ fn push_files(
     requires files { options.now.files ≡ linker.now }
     requires choices { HaveChoices linker.now choices.now }
     requires texts { length texts.now ≡ length linker.now }
+    requires linked { AllLinkOptions linker.now }
     ensures { OnOk result (Adds (IsOptionExternal linker.now options.now.known choices.now
         (map (λ text. text.now) texts.now) (length texts.now)) named.old.items named.new.items) }
 {
@@ -123,11 +106,12 @@ fn push_files(
 /// The external symbol entries of linked files, by symbol: one for each declaration of an included file that is kept by
 /// these choices and that a component of a use in a source names, or one of a name in an option of a source.
 ///
-/// A source's options may name what it doesn't see: the messages of options. If no file is included, none is looked at, and
-/// no memory is taken.
+/// A source's options may name what it doesn't see, but reaches. If no file is included, none is looked at, and no
+/// memory is taken.
 ///
 /// `choices` has to have a choice for each declaration of each file that has facts, and each file the text with its
-/// number; `options` has to be of the same files. An error means that memory was refused.
+/// number; `options` has to be of the same files, and names in the options of each source be linked. An error means
+/// that memory was refused.
 pub fn externals_with_options(
     alloc: Global,
     named: &SymbolPackages<'_, '_, '_>,
@@ -138,6 +122,7 @@ pub fn externals_with_options(
     requires choices { HaveChoices named.now.files choices.now }
     requires options { options.now.files ≡ named.now.files }
     requires texts { length texts.now ≡ length named.now.files }
+    requires linked { AllLinkOptions named.now.files }
     ensures { IfOk result (AreExternalsWith (Some options.now.known) named.now.files
         (map (λ text. text.now) texts.now) choices.now named.now.ids) }
 {
@@ -148,5 +133,7 @@ pub fn externals_with_options(
     }
     let mut pairs = named_externals(alloc, linker, choices, first)?;
     push_files(&mut pairs, linker, choices, options, texts)?;
+    // From here on it is known that what options name is in reachable files.
+    targets_are_reachable();
     entries_by_symbol(alloc, named, choices, pairs)
 }

@@ -2,6 +2,7 @@
 
 ghost use Rattle.scip_model.specs.Laws.{NoTies, OneDocument, OneListOfExternals, OneIndex};
 ghost use Rattle.scip_model.specs.Laws.{NothingIsRepeated, SymbolsNameOne, SymbolsMeet};
+ghost use Rattle.scip_model.specs.Parts.{PartsDocumentAlike};
 ghost use Rattle.scip_model.specs.Pieces.{OneMergeRefusal, OneMergedList};
 
 use proto_decl::{facts_in_order, facts_stand_apart, facts_stand_in_text};
@@ -61,4 +62,9 @@ pub fn nothing_is_repeated()
 /// other has for it. The file's number in each tree doesn't matter.
 pub fn symbols_meet()
     ensures { SymbolsMeet }
+{}
+
+/// What is made of a part of files is what is made of the whole, if the part has all that its sources see.
+pub fn parts_document_alike()
+    ensures { PartsDocumentAlike }
 {}

@@ -45,7 +45,8 @@ pub use external_options::externals_with_options;
 pub use external_symbols::externals_in_packages;
 pub use laws::{
     no_two_occurrences_tie, nothing_is_repeated, one_document_a_source, one_index,
-    one_merge_refusal, one_merged_list, symbols_meet, symbols_name_one_entity_in_packages,
+    one_merge_refusal, one_merged_list, parts_document_alike, symbols_meet,
+    symbols_name_one_entity_in_packages,
 };
 pub use naming::SymbolPackages;
 pub use one_package::{document, externals};

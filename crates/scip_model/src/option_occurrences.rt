@@ -41,7 +41,7 @@ use crate::known_parts::KnownParts;
 use crate::occurrence_order::{in_order, merged};
 use crate::option_parts::{OptionPlan, add_part_at};
 use crate::symbol_table::SymbolTable;
-use crate::targets::counted_place;
+use crate::targets::last_place;
 use option_link::{DeclaredPlace, OptionLinker, OptionTarget, one_gap_an_option};
 use proto_lex::Span;
 use proto_link::Entity;
@@ -94,7 +94,7 @@ fn add_name(
     Ok(())
 }
 
-/// Adds the occurrences of the name in an option that has this target, if what it names is in a file that counts.
+/// Adds the occurrences of the name in an option that has this target.
 fn add_target(
     plan: &mut OptionPlan,
     maker: &DocumentMaker<'_, '_, '_, '_>,
@@ -117,7 +117,7 @@ fn add_target(
     facts_occur_in_order(maker.package.linker());
     // From here on it is known that names are spelled by identifiers.
     let parts = target.parts.as_slice();
-    match counted_place(options, parts) {
+    match last_place(parts) {
         Some(place) => match name_at(option, target.name_number) {
             Some(name) => add_name(plan, maker, name, parts, place, texts),
             None => Ok(()),

@@ -1,12 +1,11 @@
 //! What a use of a source names, and where that is which a name in an option names.
 
-ghost use Rattle.std.specs.Prelude.{◌≡◌, ◌<◌, ◌++◌, length, IfOk, MatchOption, OnOk};
+ghost use Rattle.std.specs.Prelude.{◌≡◌, ◌<◌, ◌++◌, length, IfOk, OnOk};
 ghost use Rattle.scip_model.specs.Conditions.{IsFound};
 ghost use Rattle.scip_model.specs.Tables.Listing.{Finds, parts_of, unless_found};
-ghost use Rattle.scip_model.specs.Tables.OptionListing.{IsCountedPlace, IsLastPart};
-ghost use Rattle.option_link.specs.declared.place.DeclaredPlace.{DeclaredPlace};
+ghost use Rattle.scip_model.specs.Tables.OptionListing.{IsLastPlace};
 
-use option_link::{DeclaredPlace, OptionLinker};
+use option_link::DeclaredPlace;
 use proto_decl::Use;
 use proto_lex::Span;
 use proto_link::{Entity, LinkFault, Linker, Target};
@@ -61,8 +60,8 @@ pub(crate) fn add_unresolved(
 }
 
 /// Where the last of these parts is declared, if it is a declaration.
-fn last_place(parts: &[Entity]) -> Option<DeclaredPlace>
-    ensures { MatchOption result ((at : DeclaredPlace) → IsLastPart parts.now at → ⊥) (IsLastPart parts.now) }
+pub(crate) fn last_place(parts: &[Entity]) -> Option<DeclaredPlace>
+    ensures { IsLastPlace parts.now result }
 {
     match parts.last() {
         Some(Entity::Declared(file, index)) => Some(DeclaredPlace {
@@ -70,25 +69,5 @@ fn last_place(parts: &[Entity]) -> Option<DeclaredPlace>
             index: *index,
         }),
         _ => None,
-    }
-}
-
-/// The same, if that is in a file that counts.
-pub(crate) fn counted_place(
-    options: &OptionLinker<'_, '_, '_>,
-    parts: &[Entity],
-) -> Option<DeclaredPlace>
-    requires { (at : DeclaredPlace) → IsLastPart parts.now at → at.file < length options.now.files }
-    ensures { IsCountedPlace options.now.files parts.now result }
-{
-    match last_place(parts) {
-        Some(place) => {
-            if options.counts(place.file) {
-                Some(place)
-            } else {
-                None
-            }
-        }
-        None => None,
     }
 }

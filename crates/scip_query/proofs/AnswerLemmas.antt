@@ -1,8 +1,8 @@
 -- Texts of what is found.
 use Rattle.std.proofs.Common.{◌≡◌, ℕ, List, [], ◌∷◌, ◌++◌, length, map, Ok, Err, refl, sym, ◌∙◌, ap, subst}
 use Rattle.std.proofs.lemmas.List.{length-map}
-use Rattle.std.specs.Prelude.{Result, Some}
-use Rattle.std.specs.List.{flat_map, AllZip}
+use Rattle.std.specs.Prelude.{Result, Some, nat_le}
+use Rattle.std.specs.List.{filter, flat_map, list_all, AllZip}
 use Rattle.std.specs.Result.{result_map_both}
 use Rattle.scip_records.specs.declared.records.Index.{Index}
 use Rattle.scip_query.specs.declared.place.Place.{Place}
@@ -10,11 +10,13 @@ use Rattle.scip_query.specs.declared.position.Position.{Position}
 use Rattle.scip_query.specs.declared.miss.Miss.{Miss}
 use Rattle.scip_query.specs.Sites.{Site}
 use Rattle.scip_query.specs.OccurrenceAt.{Subject, subject_at}
+use Rattle.scip_query.specs.Nearest.{nearest, nearest_at, nearness_listed}
 use Rattle.scip_query.specs.References.{references_of, definitions_of, references_at, definitions_at, site_places}
 use Rattle.scip_query.specs.Tables.Searches.{site_listed}
 use Rattle.scip_query.specs.AnswerText.{site_line, listing, count_line}
 use Rattle.scip_query.specs.Answering.{line_or_none}
-use Rattle.scip_query.proofs.SiteLemmas.{references_stand, definitions_stand, defining_are}
+use Rattle.scip_query.proofs.NearestLemmas.{nearest_stand}
+use Rattle.scip_query.proofs.SiteLemmas.{references_stand, definitions_stand, defining_are, places_are}
 
 zip_lines : {A B : Type 0} (R : A → B → Type 0) (f : A → List ℕ) (g : B → List ℕ)
     → ((a : A) (b : B) → R a b → f a ≡ g b) → (xs : List A) (ys : List B) → AllZip R xs ys
@@ -67,19 +69,34 @@ references_listed index path p places e = by (subject_at index path p) e where
       let are : map (λ (s : Site). s.place) (references_of index subject) ≡ places = cc in
       sites_listed index places (references_of index subject) (sym are) (references_stand index subject)
 
-pub definitions_listed : (index : Index) (path : List ℕ) (p : Position) (places : List Place)
+-- of the places of definitions, those of the nearest
+pub nearest_listed : (index : Index) (path : List ℕ) (p : Position) (places found : List Place)
     → site_places (definitions_at index path p) ≡ Ok places
-    → flat_map (λ place. line_or_none (site_listed index.documents place)) places ++ count_line (length places)
-    ≡ listing site_line (definitions_at index path p)
-definitions_listed index path p places e = by (subject_at index path p) e where
+    → found ≡ filter (λ place. list_all (λ other. nat_le (nearness_listed index.documents path other)
+    (nearness_listed index.documents path place)) places) places
+    → flat_map (λ place. line_or_none (site_listed index.documents place)) found ++ count_line (length found)
+    ≡ listing site_line (nearest_at index path p)
+nearest_listed index path p places found e are = by (subject_at index path p) e where
+  Stand : Place → Site → Type 0
+  Stand place site = site_listed index.documents place ≡ Some site
+
+  near : List Place → List Place
+  near all = filter (λ place. list_all (λ other. nat_le (nearness_listed index.documents path other)
+      (nearness_listed index.documents path place)) all) all
+
   by : (s : Result Subject Miss) → site_places (result_map_both (definitions_of index) (λ m. m) s) ≡ Ok places
-      → flat_map (λ place. line_or_none (site_listed index.documents place)) places ++ count_line (length places)
-      ≡ listing site_line (result_map_both (definitions_of index) (λ m. m) s)
+      → flat_map (λ place. line_or_none (site_listed index.documents place)) found ++ count_line (length found)
+      ≡ listing site_line (result_map_both (nearest path) (λ m. m) (result_map_both (definitions_of index) (λ m. m) s))
   by (Err m) f = absurd cc
   by (Ok subject) f =
-      let are : map (λ (s : Site). s.place) (definitions_of index subject) ≡ places = cc in
+      let defined : map (λ (s : Site). s.place) (definitions_of index subject) ≡ places = cc in
       let referring : List Place = map (λ (s : Site). s.place) (references_of index subject) in
-      sites_listed index places (definitions_of index subject) (sym are)
-      (subst (λ l. AllZip (λ (place : Place) (site : Site). site_listed index.documents place ≡ Some site) l
-      (definitions_of index subject)) (defining_are index subject referring refl)
-      (definitions_stand index subject referring (references_stand index subject)))
+      let all : AllZip Stand places (definitions_of index subject) =
+      subst (λ l. AllZip Stand l (definitions_of index subject))
+      (defining_are index subject referring refl ∙ defined)
+      (definitions_stand index subject referring (references_stand index subject)) in
+      let sites = nearest path (definitions_of index subject) in
+      let stand : AllZip Stand (near places) sites =
+      nearest_stand index.documents path places (definitions_of index subject) all in
+      let is : near places ≡ map (λ (s : Site). s.place) sites = places_are index.documents (near places) sites stand in
+      sites_listed index found sites (are ∙ is) (subst (λ l. AllZip Stand l sites) is stand)

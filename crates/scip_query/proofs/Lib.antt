@@ -29,6 +29,8 @@ mod MoreAnswerLemmas
 mod MoreCommandLemmas
 -- The longest end of a text in which a byte occurs at most so often
 mod NameLemmas
+-- Ends of texts, and the nearest of sites
+mod NearestLemmas
 -- Places and the sites that they stand for
 mod SiteLemmas
 -- A list has one sorted order that keeps the order of what compares as equal

@@ -7,7 +7,8 @@ use Rattle.scip_records.specs.Range.{RangeNumbers}
 use Rattle.scip_records.specs.declared.records.Index.{Index}
 use Rattle.scip_records.specs.declared.records.SymbolInformation.{SymbolInformation}
 use Rattle.scip_query.specs.Sites.{Site}
-use Rattle.scip_query.specs.References.{definitions_at, references_at}
+use Rattle.scip_query.specs.Nearest.{nearest_at}
+use Rattle.scip_query.specs.References.{references_at}
 use Rattle.scip_query.specs.Documentation.{documentation_at, symbols_of}
 use Rattle.scip_query.specs.declared.command.Question.TheVariants.{Definitions, References, Documentation}
 use Rattle.scip_query.specs.Commands.{Command, Ask, Symbols, space, max_command_length, command_lines}
@@ -54,7 +55,7 @@ listing line (Err miss) = miss_text miss
 
 -- the answer to a command
 abbrev pub answer_of : Index → Command → List ℕ
-answer_of index (Ask Definitions p path) = listing site_line (definitions_at index path p)
+answer_of index (Ask Definitions p path) = listing site_line (nearest_at index path p)
 answer_of index (Ask References p path) = listing site_line (references_at index path p)
 answer_of index (Ask Documentation p path) = listing quoted (documentation_at index path p)
 answer_of index (Symbols path) = listing symbol_line (symbols_of index path)

@@ -8,6 +8,7 @@ pub mod OccurrenceAt
 pub mod References
 pub mod Documentation
 pub mod BySymbol
+pub mod Nearest
 pub mod Sorting
 pub mod Entries
 pub mod Kinds

@@ -23,7 +23,8 @@ ghost use Rattle.scip_query.specs.Answering.{Answers, line_or_none};
 ghost use Rattle.scip_query.specs.Commands.{max_command_length};
 ghost use Rattle.scip_query.specs.CommandReading.{command_of};
 ghost use Rattle.scip_query.specs.CommandViews.{command_view};
-ghost use Rattle.scip_query.specs.References.{definitions_at, references_at};
+ghost use Rattle.scip_query.specs.Nearest.{nearest_at};
+ghost use Rattle.scip_query.specs.References.{references_at};
 ghost use Rattle.scip_query.specs.Documentation.{documentation_at, symbols_of};
 ghost use Rattle.scip_query.specs.Outcomes.{fault_of};
 ghost use Rattle.scip_query.specs.declared.miss.Miss.{Miss};
@@ -32,6 +33,7 @@ ghost use Rattle.streams.specs.Writers.{writer};
 use crate::answer_fault::AnswerFault;
 use crate::command::{Command, MAX_COMMAND_LENGTH, Question, command_of};
 use crate::miss::Miss;
+use crate::nearness::nearest;
 use crate::place::Place;
 use crate::position::Position;
 use crate::queries::Queries;
@@ -181,7 +183,8 @@ pub(crate) fn push_miss(text: &mut String, miss: Miss) -> Result<(), AllocError>
 }
 
 impl Queries {
-    /// Appends the definitions of the symbol at a position.
+    /// Appends the definitions of the symbol at a position: of several of a file those that are nearest to the
+    /// document in which it is asked for.
     fn push_definitions(
         &self,
         alloc: Global,
@@ -190,10 +193,13 @@ impl Queries {
         path: &str,
     ) -> Result<(), AllocError>
         ensures { OnOk result (string_bytes text.new ≡ string_bytes text.old ++ listing site_line
-            (definitions_at self.now path.now position)) }
+            (nearest_at self.now path.now position)) }
     {
         match self.definitions(alloc, path, position.line, position.column) {
-            Ok(places) => push_sites(text, self.documents(), places.as_slice()),
+            Ok(places) => {
+                let near = nearest(alloc, self.documents(), path, places.as_slice())?;
+                push_sites(text, self.documents(), near.as_slice())
+            }
             Err(fault) => push_fault(text, fault),
         }
     }

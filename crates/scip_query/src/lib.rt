@@ -17,6 +17,7 @@ mod tables;
 
 // What is asked: at a position, or about a symbol.
 mod lookups;
+mod nearness;
 mod position;
 
 // What else is asked: outlines, and definitions by their names.

@@ -16,7 +16,7 @@ pub struct Row {
 
 /// The first row reads: the documents of two indexes come in the order of their paths, and the metadata is that of the
 /// first.
-pub static ROWS: [Row; 15] = [
+pub static ROWS: [Row; 19] = [
     Row {
         case: "documents by path",
         indexes: "@file:/// b:B#, d:|@file:/// a:A#,X#, c:",
@@ -116,10 +116,38 @@ pub static ROWS: [Row; 15] = [
         joined: "a: b: ",
     },
     Row {
+        case: "another text encoding",
+        indexes: "@r a:|@r~0 b:|@r~2 c:",
+        root: "",
+        replace: false,
+        joined: "OtherEncoding",
+    },
+    Row {
+        case: "another text encoding, where a root is asked for",
+        indexes: "@r~2 a:|@s b:",
+        root: "t",
+        replace: false,
+        joined: "OtherEncoding",
+    },
+    Row {
+        case: "the text encoding of the first index",
+        indexes: "@r a:|@r~0 b:|@r c:",
+        root: "",
+        replace: false,
+        joined: "@r a: b: c: ",
+    },
+    Row {
+        case: "a first index that says no text encoding",
+        indexes: "@r~0 a:|@r b:|@r~2 c:",
+        root: "",
+        replace: false,
+        joined: "@r~0 a: b: c: ",
+    },
+    Row {
         case: "a root for an index without metadata",
         indexes: "a:",
         root: "t",
         replace: false,
-        joined: "@t a: ",
+        joined: "@t~0 a: ",
     },
 ];

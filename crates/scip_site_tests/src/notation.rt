@@ -1,6 +1,7 @@
-//! Indexes as short texts. Their words are parted by a space: `@ROOT` is the project root, `PATH:SYMBOL,SYMBOL` a
-//! document with these entries, and `SYMBOL=NAME` an external entry and how it is shown. `SYMBOL=NAME<OUTER` is one
-//! that is declared in another symbol. A text without a root has no metadata.
+//! Indexes as short texts. Their words are parted by a space: `@ROOT` is the project root, of an index in UTF-8,
+//! `PATH:SYMBOL,SYMBOL` a document with these entries, and `SYMBOL=NAME` an external entry and how it is shown.
+//! `SYMBOL=NAME<OUTER` is one that is declared in another symbol. A text without a root has no metadata; `@ROOT~N` says
+//! another text encoding.
 
 use basics::{OwnedText, Sequence};
 use scip_records::{
@@ -8,14 +9,38 @@ use scip_records::{
 };
 use std::alloc::{AllocError, Global};
 
-/// Metadata with this project root.
-fn metadata_of(alloc: Global, root: &str) -> Result<Metadata, AllocError> {
+/// The text encoding of UTF-8 (`scip.proto`, TextEncoding).
+const UTF8: i32 = 1;
+
+/// Metadata with this project root, and this text encoding.
+fn metadata_with(alloc: Global, root: &str, encoding: i32) -> Result<Metadata, AllocError> {
     Ok(Metadata {
         version: 0,
         tool_info: None,
         project_root: OwnedText::copy_of(alloc, root)?,
-        text_document_encoding: 1,
+        text_document_encoding: encoding,
     })
+}
+
+/// The metadata that a word says.
+fn metadata_of(alloc: Global, word: &str) -> Result<Metadata, AllocError> {
+    match word.split_once('~') {
+        Some((root, encoding)) => {
+            metadata_with(alloc, root, encoding.parse::<i32>().unwrap_or(UTF8))
+        }
+        None => metadata_with(alloc, word, UTF8),
+    }
+}
+
+/// Appends what says metadata.
+fn push_metadata(text: &mut String, metadata: &Metadata) -> Result<(), AllocError> {
+    text.push_str("@")?;
+    text.push_str(metadata.project_root.as_str())?;
+    let encoding = metadata.text_document_encoding;
+    if encoding != UTF8 {
+        write!(text, "~{encoding}")?;
+    }
+    text.push_str(" ")
 }
 
 /// An entry of this symbol, shown by this name.
@@ -143,9 +168,7 @@ fn push_external(text: &mut String, entry: &SymbolInformation) -> Result<(), All
 pub fn text_of(alloc: Global, index: &Index) -> Result<String, AllocError> {
     let mut text = String::new(alloc);
     if let Some(metadata) = &index.metadata {
-        text.push_str("@")?;
-        text.push_str(metadata.project_root.as_str())?;
-        text.push_str(" ")?;
+        push_metadata(&mut text, metadata)?;
     }
     for document in index.documents.as_slice() {
         push_document(&mut text, document)?;

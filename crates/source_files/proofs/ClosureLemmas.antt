@@ -21,10 +21,11 @@ use Rattle.std.proofs.lemmas.Bool.{false≢true}
 use Rattle.std.proofs.lemmas.List.Sorted.{Contains-permutation, IsPermutation-sym}
 use Rattle.std.proofs.lemmas.Slice.Eq.{bytes_eq-Decides}
 use Rattle.source_files.specs.Closures.{paths_in}
-use Rattle.source_files.specs.Seen.{Import}
+use Rattle.source_files.specs.Closures.{built_in_of}
+use Rattle.source_files.specs.Reached.{Import, Told, descriptor_path}
 use Rattle.source_files.proofs.WellKnownLemmas.{first_of_rest, none_left}
 use Rattle.source_files.specs.Closures.AreFresh.{none_fresh, is_bad, is_known, is_fresh}
-use Rattle.source_files.specs.Seen.{AreApart, no_path, one_more}
+use Rattle.source_files.specs.Reached.{AreApart, no_path, one_more}
 
 -- ---- members
 
@@ -218,6 +219,15 @@ pub shown : (publicly : Bool) (import : Import) (old new fresh longer : List (Li
     → AddsFresh (wanted_by publicly import) old new fresh longer
 shown publicly import old new fresh longer is adds =
     subst (λ (b : Bool). AddsFresh (cond b [] (import.path ∷ [])) old new fresh longer) (sym is) adds
+
+-- ---- the file with the messages of options
+
+pub no_built_in : (links_options wanted : Bool) (sources : List Told) (known fresh : List (List ℕ))
+    → built_in_of links_options sources ≡ cond wanted (descriptor_path ∷ []) [] → wanted ≡ false
+    → AddsFresh (built_in_of links_options sources) known known fresh fresh
+no_built_in links_options wanted sources known fresh are is =
+    subst (λ (l : List (List ℕ)). AddsFresh l known known fresh fresh)
+    (sym (are ∙ ap (λ (b : Bool). cond b (descriptor_path ∷ []) []) is)) (adds_nothing known fresh)
 
 -- ---- one after the other
 

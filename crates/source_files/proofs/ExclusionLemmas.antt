@@ -32,9 +32,9 @@ module _ {A : Type 0} (name_of : A → List ℕ) (patterns : List (List ℕ)) (f
   adds_none one old excluded = record { left = []; stay = goes excluded none_stays; new_are = sym (append-nil old) }
 
 -- of what has names, by those
-module _ {A : Type 0} (name_of : A → List ℕ) (patterns : List (List ℕ)) (folder : List ℕ) where
-  pub names_stay : {all left : List A} → Stay name_of patterns folder all left
-      → Stay (λ (name : List ℕ). name) patterns folder (map name_of all) (map name_of left)
+module _ {A B : Type 0} (view : A → B) (name_of : B → List ℕ) (patterns : List (List ℕ)) (folder : List ℕ) where
+  pub names_stay : {all left : List A} → Stay (λ (one : A). name_of (view one)) patterns folder all left
+      → Stay name_of patterns folder (map view all) (map view left)
   names_stay none_stays = none_stays
   names_stay (stays kept rest) = stays kept (names_stay rest)
   names_stay (goes excluded rest) = goes excluded (names_stay rest)

@@ -3,31 +3,33 @@ use Rattle.std.proofs.Common.{◌≡◌, ◌∙◌, ℕ, List, [], ◌∷◌, �
 use Rattle.basics.proofs.ListLemmas.{map_twice as map_after}
 use Rattle.source_files.specs.declared.listing.FolderIdentity.{FolderIdentity}
 use Rattle.source_files.specs.Entries.{Entry, Give}
+use Rattle.source_files.specs.Unread.{Unread, at_path, in_folder}
 use Rattle.source_files.specs.Walks.{Had, Holds, unlisted, listed}
 
-module _ {S : Type 0} (text : S → List ℕ) (folder : List ℕ) where
-  abbrev had_by : (folders sources unread : List (List ℕ)) → Option FolderIdentity → Had
+module _ {S E : Type 0} (text : S → List ℕ) (entry : E → Unread) (folder : List ℕ) where
+  abbrev had_by : (folders sources : List (List ℕ)) → (unread : List Unread) → Option FolderIdentity → Had
   had_by folders sources unread identity =
       record { folders = folders; sources = sources; unread = unread; identity = identity }
 
   -- one that can't be listed
-  pub holds_unlisted : (folders paths unread : List S) → folders ≡ [] → paths ≡ [] → map text unread ≡ folder ∷ []
-      → Holds folder None (had_by (map text folders) (map text paths) (map text unread) None)
+  pub holds_unlisted : (folders paths : List S) (unread : List E) → folders ≡ [] → paths ≡ []
+      → map entry unread ≡ at_path folder ∷ []
+      → Holds folder None (had_by (map text folders) (map text paths) (map entry unread) None)
   holds_unlisted folders paths unread no_folder no_path one =
-      subst (λ (l : List S). Holds folder None (had_by (map text l) (map text paths) (map text unread) None))
+      subst (λ (l : List S). Holds folder None (had_by (map text l) (map text paths) (map entry unread) None))
       (sym no_folder)
-      (subst (λ (l : List S). Holds folder None (had_by [] (map text l) (map text unread) None)) (sym no_path)
-      (subst (λ (l : List (List ℕ)). Holds folder None (had_by [] [] l None)) (sym one) unlisted))
+      (subst (λ (l : List S). Holds folder None (had_by [] (map text l) (map entry unread) None)) (sym no_path)
+      (subst (λ (l : List Unread). Holds folder None (had_by [] [] l None)) (sym one) unlisted))
 
   -- and one that can
-  pub holds_listed : (entries : List Entry) (names : List S) (identity : Option FolderIdentity)
-      (folders paths unread : List S) → Give folder entries (map text folders) (map text paths)
-      → map text unread ≡ map (λ name. folder ++ text name) names
-      → Holds folder (Some (record { entries = entries; identity = identity; unnamed = map text names }))
-      (had_by (map text folders) (map text paths) (map text unread) identity)
+  pub holds_listed : (entries : List Entry) (names : List E) (identity : Option FolderIdentity)
+      (folders paths : List S) (unread : List E) → Give folder entries (map text folders) (map text paths)
+      → map entry unread ≡ map (λ named. in_folder folder (entry named)) names
+      → Holds folder (Some (record { entries = entries; identity = identity; unnamed = map entry names }))
+      (had_by (map text folders) (map text paths) (map entry unread) identity)
   holds_listed entries names identity folders paths unread give are =
       subst
-      (λ (l : List (List ℕ)). Holds folder
-      (Some (record { entries = entries; identity = identity; unnamed = map text names }))
+      (λ (l : List Unread). Holds folder
+      (Some (record { entries = entries; identity = identity; unnamed = map entry names }))
       (had_by (map text folders) (map text paths) l identity))
-      (map_after (λ (name : List ℕ). folder ++ name) text names ∙ sym are) (listed give)
+      (map_after (in_folder folder) entry names ∙ sym are) (listed give)

@@ -1,8 +1,8 @@
 -- Each file is named after the spec or source that it serves.
--- Which paths are fresh, and what files are seen by them
+-- Which paths are fresh, and what files are reached by them
 pub mod ClosureLemmas
--- The files that sources see, level by level
-pub mod SeenLemmas
+-- The files that sources reach, level by level
+pub mod ReachedLemmas
 -- What the entries of a folder give, entry by entry
 pub mod EntryLemmas
 -- What isn't excluded, one after the other
@@ -31,11 +31,13 @@ pub mod RootLemmas
 pub mod SourceListLemmas
 -- What is read, or none; and what is kept of a source where nothing is known of the files
 pub mod SystemFileKeptLemmas
+-- Which files are taken, one after the other; and the tree of those that are
+pub mod TakenLemmas
 -- Paths that are listed below a root stay below it
 pub mod WalkLawLemmas
 -- A walk through the folders below a root, level by level, finds what is listed there
 pub mod WalkLemmas
--- Texts by their bytes, each once
+-- Items by a view of them, each once
 pub mod WalkOnceLemmas
 -- What is listed below a root is one list, if each folder has one listing
 pub mod WalkOneListingLemmas
@@ -43,5 +45,7 @@ pub mod WalkOneListingLemmas
 pub mod WalkStepPartLemmas
 -- What is beside each `protoc`, folder by folder, and the first folder that has the well-known files
 pub mod WellKnownLemmas
--- what sources see, where something of it can't be read (specs/Seen)
+-- What sources reach, where something of it can't be read (specs/Reached)
 pub mod UnreadLemmas
+-- The order of what isn't read is one, and tells any two apart; and what is shown of a path
+pub mod UnreadEntryLemmas

@@ -15,8 +15,8 @@ use Rattle.source_files.specs.declared.looking.Looked.TheVariants.{Found, LeftOu
 use Rattle.source_files.specs.Closures.{found_of, left_of}
 use Rattle.source_files.specs.Looks.{AreLooked, GivesLooked, MayStopLooking}
 use Rattle.source_files.specs.ListedTrees.{IsFirstLost, MayNotFind, paths_at}
-use Rattle.source_files.specs.Seen.{AreSources, CantBeRead, HasNone, Import, IsTold, Told, path_of}
-use Rattle.source_files.specs.Seen.{no_source, is_source, is_lost}
+use Rattle.source_files.specs.Reached.{AreSources, CantBeRead, HasNone, Import, IsTold, Told, path_of}
+use Rattle.source_files.specs.Reached.{no_source, is_source, is_lost}
 
 module _ (finds : List ℕ → List ℕ → Bool → Type 0) (gives : List ℕ → Option (List ℕ) → Type 0)
     (tells : List ℕ → List Import → Type 0)

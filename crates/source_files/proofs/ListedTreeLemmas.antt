@@ -5,15 +5,16 @@ use Rattle.source_files.specs.declared.load_fault.LoadFault.{LoadFault}
 use Rattle.source_files.specs.declared.load_fault.LoadFault.TheVariants as load
 use Rattle.source_files.specs.Closures.{Gathered}
 use Rattle.source_files.specs.LoadFaults.{MayRefuseFiles}
-use Rattle.source_files.specs.ListedTrees.{AreInTree, AreSeenWith, IsTreeListed, MayNotFind, MayNotLoadListed}
+use Rattle.source_files.specs.ListedTrees.{AreInTree, AreReachedWith, IsTreeListed, MayNotFind, MayNotLoadListed}
 use Rattle.source_files.specs.ListedTrees.{OfSources}
 use Rattle.source_files.specs.ListedTrees.{files_of}
-use Rattle.source_files.specs.Seen.{AreIncluded, AreSources, Import, MayNotInclude, Told}
+use Rattle.source_files.specs.Reached.{AreIncluded, AreSources, Import, MayNotInclude, Told}
+use Rattle.source_files.specs.Unread.{Unread}
 use Rattle.source_files.specs.Walks.{AreOnce}
 
 module _ (finds : List ℕ → List ℕ → Bool → Type 0) (gives : List ℕ → Option (List ℕ) → Type 0)
     (tells : List ℕ → List Import → Type 0)
-    (leaves_out : Bool)
+    (leaves_out links_options : Bool)
     (roots listed once shown : List (List ℕ))
     (once_are : AreOnce listed once)
     (shows : shown ≡ take 1 roots) where
@@ -41,20 +42,20 @@ module _ (finds : List ℕ → List ℕ → Bool → Type 0) (gives : List ℕ �
   of_listed : (Holds : (sources included : List Told) → (lost left : List (List ℕ)) → Type 0)
       (sources included : Gathered)
       → AreSources finds gives tells leaves_out shown once sources.found sources.unread
-      → AreIncluded finds gives tells leaves_out roots once sources.found included.found included.unread
+      → AreIncluded finds gives tells leaves_out links_options roots once sources.found included.found included.unread
       → Holds sources.found included.found sources.unread included.unread
       → OfSources finds gives tells leaves_out roots listed
-      (AreSeenWith finds gives tells leaves_out roots listed Holds)
+      (AreReachedWith finds gives tells leaves_out links_options roots listed Holds)
   of_listed Holds sources included are seen holds =
-      of_sources (AreSeenWith finds gives tells leaves_out roots listed Holds) sources are
+      of_sources (AreReachedWith finds gives tells leaves_out links_options roots listed Holds) sources are
       (record { included = included.found; left = included.unread; included_are = seen; holds = holds })
 
   pub loads : (sources included : Gathered) (count : ℕ) (tree : List TreeFile) (own : List (List ℕ))
-      (others : List (List (List ℕ))) (unread : List (List ℕ)) → count ≡ length roots
+      (others : List (List (List ℕ))) (unread : List Unread) → count ≡ length roots
       → AreSources finds gives tells leaves_out shown once sources.found sources.unread
-      → AreIncluded finds gives tells leaves_out roots once sources.found included.found included.unread
+      → AreIncluded finds gives tells leaves_out links_options roots once sources.found included.found included.unread
       → AreInTree count sources.found included.found sources.unread included.unread tree own others unread
-      → IsTreeListed finds gives tells leaves_out roots listed tree own others unread
+      → IsTreeListed finds gives tells leaves_out links_options roots listed tree own others unread
   loads sources included count tree own others unread counted are seen made =
       of_listed (λ s i lost left. AreInTree (length roots) s i lost left tree own others unread) sources included are
       seen
@@ -63,7 +64,7 @@ module _ (finds : List ℕ → List ℕ → Bool → Type 0) (gives : List ℕ �
 
   -- a source isn't read
   pub refuses_source : (fault : LoadFault) → MayNotFind finds gives tells leaves_out shown once fault
-      → MayNotLoadListed finds gives tells leaves_out roots listed fault
+      → MayNotLoadListed finds gives tells leaves_out links_options roots listed fault
   refuses_source (load.Unreadable name) stops =
       inl (
         once,
@@ -76,16 +77,16 @@ module _ (finds : List ℕ → List ℕ → Bool → Type 0) (gives : List ℕ �
   refuses_source (load.SamePath path) stops = absurd stops
   refuses_source load.Memory stops = tt
 
-  -- a file that sources see isn't, or they are too many
+  -- a file that sources reach isn't, or they are too many
   pub refuses_included : (sources : Gathered) (fault : LoadFault)
       → AreSources finds gives tells leaves_out shown once sources.found sources.unread
-      → MayNotInclude finds gives tells leaves_out roots once sources.found fault
-      → MayNotLoadListed finds gives tells leaves_out roots listed fault
+      → MayNotInclude finds gives tells leaves_out links_options roots once sources.found fault
+      → MayNotLoadListed finds gives tells leaves_out links_options roots listed fault
   refuses_included sources (load.Unreadable name) are stops =
-      inr (of_sources (λ o s lost. MayNotInclude finds gives tells leaves_out roots o s (load.Unreadable name)) sources
+      inr (of_sources (λ o s lost. MayNotInclude finds gives tells leaves_out links_options roots o s (load.Unreadable name)) sources
       are stops)
   refuses_included sources load.TooMany are stops =
-      inl (of_sources (λ o s lost. MayNotInclude finds gives tells leaves_out roots o s load.TooMany) sources are stops)
+      inl (of_sources (λ o s lost. MayNotInclude finds gives tells leaves_out links_options roots o s load.TooMany) sources are stops)
   refuses_included sources (load.BadPath path) are stops = absurd stops
   refuses_included sources (load.SamePath path) are stops = absurd stops
   refuses_included sources load.Memory are stops = tt
@@ -93,9 +94,9 @@ module _ (finds : List ℕ → List ℕ → Bool → Type 0) (gives : List ℕ �
   -- the files make no tree
   pub refuses_tree : (sources included : Gathered) (fault : LoadFault)
       → AreSources finds gives tells leaves_out shown once sources.found sources.unread
-      → AreIncluded finds gives tells leaves_out roots once sources.found included.found included.unread
+      → AreIncluded finds gives tells leaves_out links_options roots once sources.found included.found included.unread
       → MayRefuseFiles (files_of sources.found) (files_of included.found) fault
-      → MayNotLoadListed finds gives tells leaves_out roots listed fault
+      → MayNotLoadListed finds gives tells leaves_out links_options roots listed fault
   refuses_tree sources included (load.Unreadable name) are seen stops = absurd stops
   refuses_tree sources included load.TooMany are seen stops =
       inr (of_listed (λ s i lost left. MayRefuseFiles (files_of s) (files_of i) load.TooMany) sources included are seen

@@ -15,7 +15,7 @@ use Rattle.source_files.specs.RootFaults.{MayStop}
 use Rattle.source_files.specs.declared.load_fault.LoadFault.{LoadFault}
 use Rattle.source_files.specs.declared.load_fault.LoadFault.TheVariants as load
 use Rattle.source_files.specs.Loads.{MayNotLoad}
-use Rattle.source_files.specs.LoadFaults.{MayStopBelow, MayRefuseFiles}
+use Rattle.source_files.specs.LoadFaults.{MayRefuseTaken, MayStopBelow}
 
 -- a list that is mapped, parted at an item
 pub parted_at : {A B : Type 0} (f : A → B) (xs : List A) (number : ℕ) (x : A) → number < length xs
@@ -140,8 +140,8 @@ module _ (lists : List ℕ → List ℕ → Option Listing → Type 0) (gives : 
   -- files that make no tree
   pub refused_files : (root : List ℕ) (roots : List (List ℕ)) (own : FilesBelow) (others : List FilesBelow)
       (fault : LoadFault) → AreFilesBelow lists gives leaves_out root own → AreEach roots others
-      → MayRefuseFiles own.files (files_of others) fault → MayNotLoad lists gives leaves_out root roots fault
-  refused_files root roots own others (load.Unreadable name) below each refuses = absurd refuses
+      → MayRefuseTaken leaves_out own others fault → MayNotLoad lists gives leaves_out root roots fault
+  refused_files root roots own others (load.Unreadable name) below each refuses = absurd refuses.holds
   refused_files root roots own others load.TooMany below each refuses =
       record { own = own; others = others; below = below; below_each = each; holds = refuses }
   refused_files root roots own others (load.BadPath path) below each refuses =

@@ -12,8 +12,8 @@ use Rattle.source_files.specs.declared.load_fault.LoadFault.{LoadFault}
 use Rattle.source_files.specs.declared.load_fault.LoadFault.TheVariants as load
 use Rattle.source_files.specs.declared.looking.Looked.{Looked}
 use Rattle.source_files.specs.declared.looking.Looked.TheVariants.{Found, LeftOut, Nowhere}
-use Rattle.source_files.specs.Seen.{Import, IsFirstBelow, HasNone, CantBeRead}
-use Rattle.source_files.specs.Seen.IsFirstBelow.{is_here, is_behind}
+use Rattle.source_files.specs.Reached.{Import, IsFirstBelow, HasNone, CantBeRead}
+use Rattle.source_files.specs.Reached.IsFirstBelow.{is_here, is_behind}
 use Rattle.source_files.specs.Looks.{AreLooked, GivesLooked, IsLacking, MayStopLooking, StopsAt, StopsLooking}
 use Rattle.source_files.specs.Looks.{UnreadGives}
 use Rattle.source_files.proofs.WellKnownLemmas.{first_of_rest, none_left}

@@ -11,6 +11,7 @@ use Rattle.std.proofs.lemmas.List.Sorted.{IsPermutation-trans}
 use Rattle.basics.proofs.ListLemmas.{append_none}
 use Rattle.source_files.specs.declared.listing.FolderIdentity.{FolderIdentity}
 use Rattle.source_files.specs.Listings.{Listing}
+use Rattle.source_files.specs.Unread.{Unread, in_folder}
 use Rattle.source_files.specs.PlainWalks.{HasOnly, AreFoundBelow, below_none, below_next}
 use Rattle.source_files.specs.PlainWalks.{CantBeListed, itself, unnamed, within}
 use Rattle.source_files.specs.Walks.{Had, IsMet, Keep, none_left, keeps, passes, Holds, unlisted, listed, Has}
@@ -177,7 +178,7 @@ module _ (lists : List ℕ → Option Listing → Type 0) where
   only_of {folder = folder} none is (listed {listing = listing} give) = record {
     listing = listing;
     listed = is;
-    named = no_map (λ (name : List ℕ). folder ++ name) listing.unnamed none;
+    named = no_map (in_folder folder) listing.unnamed none;
     give = give;
   }
 
@@ -186,7 +187,7 @@ module _ (lists : List ℕ → Option Listing → Type 0) where
       → Holds folder gave had → CantBeListed lists folder
   stop_of some is unlisted = itself is
   stop_of {folder = folder} some is (listed {listing = listing} give) =
-      unnamed is (λ none. some (ap (map (λ (name : List ℕ). folder ++ name)) none))
+      unnamed is (λ none. some (ap (map (in_folder folder)) none))
 
   module _ (unknown : (folder : List ℕ) (listing : Listing) → lists folder (Some listing) → listing.identity ≡ None)
     where
@@ -201,7 +202,7 @@ module _ (lists : List ℕ → Option Listing → Type 0) where
       never_met met has known = subst (IsMet met) (nobody has.listed has.holds) known
 
       deeper : {met after : List FolderIdentity} (level : List (List ℕ)) {all : List Had}
-          {folders sources unread : List (List ℕ)} (below : List (List ℕ)) → unread ≡ []
+          {folders sources : List (List ℕ)} {unread : List Unread} (below : List (List ℕ)) → unread ≡ []
           → AllZip (Has lists) level all → Keep met all folders sources unread after
           → AreFoundBelow lists folders below → Found level (sources ++ below)
       deeper [] below none have none_left is = record { all = below; is = is; same = IsPermutation-refl below }
@@ -220,11 +221,11 @@ module _ (lists : List ℕ → Option Listing → Type 0) where
       deeper [] below none have (passes known rest) is = absurd have
       deeper (folder ∷ level) below none have (passes {met = met} known rest) is = absurd (never_met met have.0 known)
 
-      plainly : {met : List FolderIdentity} {level sources unread : List (List ℕ)} → unread ≡ []
+      plainly : {met : List FolderIdentity} {level sources : List (List ℕ)} {unread : List Unread} → unread ≡ []
           → AreFound lists met level sources unread → Found level sources
       plainly none nowhere = record { all = []; is = below_none; same = IsPermutation-refl [] }
-      plainly none (next_level {level = level} {folders = folders} {next = next} {here = here} {gone = gone}
-          {sources = sources} {unread = unread} have keep by below) =
+      plainly none (next_level {level = level} {folders = folders} {next = next} {here = here} {sources = sources}
+          {gone = gone} {unread = unread} have keep by below) =
           let nothing = append_none gone unread none in
           let further = plainly nothing.1 below in
           let back = reordered folders next further.all by.complete further.is in
@@ -244,7 +245,7 @@ module _ (lists : List ℕ → Option Listing → Type 0) where
         Counts folder = CantBeListed lists folder → Stops
 
         deeper_counts : {met after : List FolderIdentity} (level : List (List ℕ)) {all : List Had}
-            {folders sources unread : List (List ℕ)} → unread ≡ [] → AllZip (Has lists) level all
+            {folders sources : List (List ℕ)} {unread : List Unread} → unread ≡ [] → AllZip (Has lists) level all
             → Keep met all folders sources unread after → All Counts level → All Counts folders
         deeper_counts level none have none_left counts = All-nil Counts
         deeper_counts [] none have (keeps new rest) counts = absurd have
@@ -263,14 +264,14 @@ module _ (lists : List ℕ → Option Listing → Type 0) where
 
         -- something of this level can't be read
         stops_here : {met after : List FolderIdentity} (level : List (List ℕ)) {all : List Had}
-            {folders sources unread : List (List ℕ)} → unread ≢ [] → AllZip (Has lists) level all
+            {folders sources : List (List ℕ)} {unread : List Unread} → unread ≢ [] → AllZip (Has lists) level all
             → Keep met all folders sources unread after → All Counts level → Stops
         stops_here level some have none_left counts = absurd (some refl)
         stops_here [] some have (keeps new rest) counts = absurd have
         stops_here (folder ∷ level) some have (keeps {had = had} {unread = unread} new rest) counts =
             elim (none_or_some had.unread) [
               | inl none ↦ stops_here level
-                  (λ (others : unread ≡ []). some (ap (λ (l : List (List ℕ)). l ++ unread) none ∙ others)) have.1 rest
+                  (λ (others : unread ≡ []). some (ap (λ (l : List Unread). l ++ unread) none ∙ others)) have.1 rest
                   (All-tail Counts folder level counts)
               | inr one ↦ All-head Counts folder level counts (stop_of one have.0.listed have.0.holds)
             ]
@@ -278,14 +279,14 @@ module _ (lists : List ℕ → Option Listing → Type 0) where
         stops_here (folder ∷ level) some have (passes {met = met} known rest) counts =
             absurd (never_met met have.0 known)
 
-        stops : {met : List FolderIdentity} {level sources unread : List (List ℕ)} → unread ≢ []
+        stops : {met : List FolderIdentity} {level sources : List (List ℕ)} {unread : List Unread} → unread ≢ []
             → AreFound lists met level sources unread → All Counts level → Stops
         stops some nowhere counts = absurd (some refl)
         stops some (next_level {level = level} {folders = folders} {next = next} {gone = gone} {unread = unread} have
             keep by below) counts =
             elim (none_or_some gone) [
               | inl none ↦ stops
-                  (λ (others : unread ≡ []). some (ap (λ (l : List (List ℕ)). l ++ unread) none ∙ others)) below
+                  (λ (others : unread ≡ []). some (ap (λ (l : List Unread). l ++ unread) none ∙ others)) below
                   (All-permutation Counts folders next by.complete (deeper_counts level none have keep counts))
               | inr one ↦ stops_here level one have keep counts
             ]

@@ -10,6 +10,7 @@ use Rattle.std.proofs.lemmas.List.Elements.{All-nil, All-cons, All-append}
 use Rattle.index_pool.specs.Phase.{AnswersEach, IsLeastFault}
 use Rattle.source_tree.specs.Files.{SourceFile, paths_of}
 use Rattle.source_files.specs.Listings.{Listing}
+use Rattle.source_files.specs.Unread.{Unread, at_path}
 use Rattle.source_files.specs.declared.load_fault.LoadFault.{LoadFault}
 use Rattle.source_files.specs.declared.load_fault.LoadFault.TheVariants as load
 use Rattle.source_files.specs.declared.reading.ReadSource.{ReadSource}
@@ -34,9 +35,9 @@ reads_more all more old between new first second = record {
       ∙ ap (λ (l : List SourceFile). old.files ++ l) (sym (flat_map-append held_of all more))));
   unread_are =
       second.unread_are
-      ∙ (ap (λ (l : List (List ℕ)). l ++ flat_map left_of more) first.unread_are
+      ∙ (ap (λ (l : List Unread). l ++ flat_map left_of more) first.unread_are
       ∙ (append_assoc old.unread (flat_map left_of all) (flat_map left_of more)
-      ∙ ap (λ (l : List (List ℕ)). old.unread ++ l) (sym (flat_map-append left_of all more))));
+      ∙ ap (λ (l : List Unread). old.unread ++ l) (sym (flat_map-append left_of all more))));
 }
 
 pub reads_none : (below : FilesBelow) → AddsRead [] below below
@@ -45,7 +46,8 @@ reads_none below =
 
 module _ (lists : List ℕ → List ℕ → Option Listing → Type 0) (gives : List ℕ → Option (List ℕ) → Type 0) where
   -- of two lists of paths
-  read_append : {root : List ℕ} {paths more unread gone : List (List ℕ)} {sources others : List SourceFile}
+  read_append : {root : List ℕ} {paths more : List (List ℕ)} {sources others : List SourceFile}
+      {unread gone : List Unread}
       → AreRead lists gives root paths sources unread → AreRead lists gives root more others gone
       → AreRead lists gives root (paths ++ more) (sources ++ others) (unread ++ gone)
   read_append no_path rest = rest
@@ -53,7 +55,7 @@ module _ (lists : List ℕ → List ℕ → Option Listing → Type 0) (gives : 
   read_append (is_unread none front) rest = is_unread none (read_append front rest)
 
   -- where nothing is left out
-  pub strict_read : {root : List ℕ} {paths unread : List (List ℕ)} {sources : List SourceFile}
+  pub strict_read : {root : List ℕ} {paths : List (List ℕ)} {sources : List SourceFile} {unread : List Unread}
       → AreRead lists gives root paths sources unread → unread ≡ []
       → (paths_of sources ≡ paths) × All (IsHeld lists gives root) sources
   strict_read {root = root} no_path none = (refl, All-nil (IsHeld lists gives root))
@@ -67,7 +69,7 @@ module _ (lists : List ℕ → List ℕ → Option Listing → Type 0) (gives : 
 module _ (lists : List ℕ → List ℕ → Option Listing → Type 0) (gives : List ℕ → Option (List ℕ) → Type 0)
     (leaves_out : Bool)
     (root : List ℕ) where
-  abbrev Read : (paths : List (List ℕ)) → List SourceFile → (unread : List (List ℕ)) → Type 0
+  abbrev Read : (paths : List (List ℕ)) → List SourceFile → (unread : List Unread) → Type 0
   Read paths sources unread = AreRead lists gives root paths sources unread
 
   abbrev Gives : (path : List ℕ) → Result ReadSource LoadFault → Type 0
@@ -87,7 +89,7 @@ module _ (lists : List ℕ → List ℕ → Option Listing → Type 0) (gives : 
       subst (λ (p : List ℕ). Read (p ∷ paths) (source ∷ flat_map held_of all) (flat_map left_of all)) give.0.0
       (is_read give.0.1 (read_of paths all give.1))
   read_of (path ∷ paths) (LeftOut left ∷ all) give =
-      subst (λ (p : List ℕ). Read (path ∷ paths) (flat_map held_of all) (p ∷ flat_map left_of all))
+      subst (λ (p : List ℕ). Read (path ∷ paths) (flat_map held_of all) (at_path p ∷ flat_map left_of all))
       (sym give.0.1) (is_unread give.0.2 (read_of paths all give.1))
 
   none_left : leaves_out ≡ false → (paths : List (List ℕ)) (all : List ReadSource)
@@ -188,12 +190,12 @@ module _ (lists : List ℕ → List ℕ → Option Listing → Type 0) (gives : 
       read =
           let both = read_append lists gives far.read.read (read_of part all give) in
           subst (λ (l : List SourceFile). Read (far.front ++ part) l new.unread) (sym adds.files_are)
-          (subst (λ (l : List (List ℕ)). Read (far.front ++ part) (old.files ++ flat_map held_of all) l)
+          (subst (λ (l : List Unread). Read (far.front ++ part) (old.files ++ flat_map held_of all) l)
           (sym adds.unread_are) both);
       whole =
           λ strict.
           adds.unread_are
-          ∙ (ap (λ (l : List (List ℕ)). old.unread ++ l) (none_left strict part all give)
+          ∙ (ap (λ (l : List Unread). old.unread ++ l) (none_left strict part all give)
           ∙ (append-nil old.unread ∙ far.read.whole strict));
     };
   }

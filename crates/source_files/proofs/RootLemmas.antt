@@ -5,6 +5,7 @@ use Rattle.std.specs.List.{All}
 use Rattle.std.proofs.lemmas.Bool.{true≢false}
 use Rattle.source_tree.specs.Files.{SourceFile, paths_of}
 use Rattle.source_files.specs.Listings.{Listing}
+use Rattle.source_files.specs.Unread.{Unread}
 use Rattle.source_files.specs.declared.load_fault.LoadFault.{LoadFault}
 use Rattle.source_files.specs.declared.load_fault.LoadFault.TheVariants as load
 use Rattle.source_files.specs.Reading.{AreReadBut, MayStopAt}
@@ -17,7 +18,7 @@ use Rattle.source_files.proofs.ReadingLemmas.{strict_read}
 module _ (lists : List ℕ → List ℕ → Option Listing → Type 0) (gives : List ℕ → Option (List ℕ) → Type 0)
     (root : List ℕ) where
   -- what is listed and read
-  pub files_below : (leaves_out : Bool) (paths unlisted : List (List ℕ)) (read below : FilesBelow)
+  pub files_below : (leaves_out : Bool) (paths : List (List ℕ)) (unlisted : List Unread) (read below : FilesBelow)
       → AreListedBut (lists root) leaves_out paths unlisted → AreReadBut lists gives leaves_out root paths read
       → below.files ≡ read.files → below.unread ≡ unlisted ++ read.unread
       → AreFilesBelow lists gives leaves_out root below
@@ -28,7 +29,7 @@ module _ (lists : List ℕ → List ℕ → Option Listing → Type 0) (gives : 
               (subst (AreListed (lists root)) (sym at.0) listed.0);
           held = subst (All (IsHeld lists gives root)) (sym files) at.1;
         },
-        unread ∙ (ap (λ (l : List (List ℕ)). l ++ read.unread) listed.1 ∙ are.whole refl),
+        unread ∙ (ap (λ (l : List Unread). l ++ read.unread) listed.1 ∙ are.whole refl),
       )
   files_below true paths unlisted read below listed are files unread = record {
     paths = paths;
@@ -41,7 +42,7 @@ module _ (lists : List ℕ → List ℕ → Option Listing → Type 0) (gives : 
   }
 
   -- why sources aren't read that are listed
-  pub root_stops : (leaves_out : Bool) (paths unlisted : List (List ℕ)) (fault : LoadFault)
+  pub root_stops : (leaves_out : Bool) (paths : List (List ℕ)) (unlisted : List Unread) (fault : LoadFault)
       → AreListedBut (lists root) leaves_out paths unlisted → MayStopAt lists gives leaves_out root paths fault
       → MayStop lists gives leaves_out root fault
   root_stops false paths unlisted (load.Unreadable name) listed stop =

@@ -7,6 +7,7 @@ use Rattle.std.proofs.lemmas.List.Sorted.{All-permutation}
 use Rattle.std.proofs.lemmas.Grind.{flat_map-append}
 use Rattle.source_files.specs.Entries.{Entry, IsName, IsSource, IsFolder, Give, nothing, a_source, a_folder, neither}
 use Rattle.source_files.specs.Listings.{Listing}
+use Rattle.source_files.specs.Unread.{Unread}
 use Rattle.source_files.specs.declared.listing.FolderIdentity.{FolderIdentity}
 use Rattle.source_files.specs.Walks.{Had, Holds, unlisted, listed, Has, Keep, none_left, keeps, passes}
 use Rattle.source_files.specs.Walks.{AreFound, nowhere, next_level}
@@ -69,7 +70,7 @@ holds_stay path (listed give) = (folders_stay path give, sources_stay path give)
 module _ (lists : List ℕ → Option Listing → Type 0) where
   -- so it is with what is kept
   kept_stays : {met after : List FolderIdentity} (level : List (List ℕ)) {all : List Had}
-      {folders sources unread : List (List ℕ)} → All IsFolderPath level → AllZip (Has lists) level all
+      {folders sources : List (List ℕ)} {unread : List Unread} → All IsFolderPath level → AllZip (Has lists) level all
       → Keep met all folders sources unread after → Stay folders sources
   kept_stays level paths have none_left = (All-nil IsFolderPath, All-nil StaysBelow)
   kept_stays [] paths have (keeps new rest) = absurd have
@@ -83,7 +84,7 @@ module _ (lists : List ℕ → Option Listing → Type 0) where
   kept_stays (folder ∷ level) paths have (passes known rest) =
       kept_stays level (All-tail IsFolderPath folder level paths) have.1 rest
 
-  found_stay : {met : List FolderIdentity} {level found unread : List (List ℕ)} → All IsFolderPath level
+  found_stay : {met : List FolderIdentity} {level found : List (List ℕ)} {unread : List Unread} → All IsFolderPath level
       → AreFound lists met level found unread → All StaysBelow found
   found_stay paths nowhere = All-nil StaysBelow
   found_stay paths (next_level {level = level} {folders = folders} {next = next} {here = here} {sources = sources} have

@@ -10,6 +10,7 @@ use Rattle.source_files.specs.declared.found.Found.{Found}
 use Rattle.source_files.specs.declared.listing.FolderIdentity.{FolderIdentity}
 use Rattle.source_files.specs.declared.walk.Walk.{Walk}
 use Rattle.source_files.specs.Listings.{Listing}
+use Rattle.source_files.specs.Unread.{Unread, unread_of}
 use Rattle.source_files.specs.Walks.{Had, Keep, none_left, keeps, passes, IsMet, met_with, AreByBytes, AreFound}
 use Rattle.source_files.specs.Walks.{nowhere, next_level, AreWalked}
 use Rattle.source_files.specs.WalkSteps.{GoesOn, KeepsMore, Meets, is_met, is_new, had_of}
@@ -38,7 +39,7 @@ sorted_texts text (x ∷ xs) up =
 
 -- what is kept of folders, and then of others
 keep_append : {met between after : List FolderIdentity} {all more : List Had}
-    {folders sources unread inner here gone : List (List ℕ)} → Keep met all folders sources unread between
+    {folders sources inner here : List (List ℕ)} {unread gone : List Unread} → Keep met all folders sources unread between
     → Keep between more inner here gone after
     → Keep met (all ++ more) (folders ++ inner) (sources ++ here) (unread ++ gone) after
 keep_append none_left rest = rest
@@ -49,7 +50,7 @@ keep_append {after = after} {more = more} {inner = inner} {here = here} {gone = 
     ((had.unread ++ unread) ++ gone) after) (sym (append_assoc had.folders folders inner))
     (subst (λ (l : List (List ℕ)). Keep met (had ∷ (others ++ more)) (had.folders ++ (folders ++ inner)) l
     ((had.unread ++ unread) ++ gone) after) (sym (append_assoc had.sources sources here))
-    (subst (λ (l : List (List ℕ)). Keep met (had ∷ (others ++ more)) (had.folders ++ (folders ++ inner))
+    (subst (λ (l : List Unread). Keep met (had ∷ (others ++ more)) (had.folders ++ (folders ++ inner))
     (had.sources ++ (sources ++ here)) l after) (sym (append_assoc had.unread unread gone)) whole))
 keep_append (passes known front) rest = passes known (keep_append front rest)
 
@@ -62,7 +63,7 @@ none_kept walk = record {
   keep = none_left;
   folders_are = sym (append-nil (map string_bytes walk.folders.items));
   sources_are = sym (append-nil (map string_bytes walk.paths.items));
-  unread_are = sym (append-nil (map string_bytes walk.unread.items));
+  unread_are = sym (append-nil (map unread_of walk.unread.items));
 }
 
 -- three parts of a list
@@ -109,12 +110,12 @@ met_adds found old new meets folders paths unread =
           ∙ sym (append-nil (map string_bytes old.folders.items));
       sources_are = ap (map string_bytes) paths
           ∙ sym (append-nil (map string_bytes old.paths.items));
-      unread_are = ap (map string_bytes) unread
-          ∙ sym (append-nil (map string_bytes old.unread.items));
+      unread_are = ap (map unread_of) unread
+          ∙ sym (append-nil (map unread_of old.unread.items));
     }
 
 -- texts and more texts
-more_texts : {S : Type 0} (text : S → List ℕ) (old here new : List S) → new ≡ old ++ here
+more_texts : {S T : Type 0} (text : S → T) (old here new : List S) → new ≡ old ++ here
     → map text new ≡ map text old ++ (map text here ++ [])
 more_texts text old here new are =
     ap (map text) are ∙ (map-append text old here ∙ ap (λ l. map text old ++ l) (sym (append-nil (map text here))))
@@ -135,7 +136,7 @@ new_adds found old new meets folders paths unread =
           (sym met.1) (keeps met.0 none_left);
       folders_are = more_texts string_bytes old.folders.items found.folders.items new.folders.items folders;
       sources_are = more_texts string_bytes old.paths.items found.paths.items new.paths.items paths;
-      unread_are = more_texts string_bytes old.unread.items found.unread.items new.unread.items unread;
+      unread_are = more_texts unread_of old.unread.items found.unread.items new.unread.items unread;
     }
 
 -- ---- the levels
@@ -144,17 +145,17 @@ module _ (lists : List ℕ → Option Listing → Type 0) where
   -- what is found from this level on completes what is found below the root
   abbrev pub IsWalk : Walk → Type 0
   IsWalk walk =
-      (sources unread : List (List ℕ))
+      (sources : List (List ℕ)) (unread : List Unread)
       → AreFound lists walk.met.items (map string_bytes walk.folders.items) sources unread
       → AreFound lists [] ([] ∷ []) (map string_bytes walk.paths.items ++ sources)
-      (map string_bytes walk.unread.items ++ unread)
+      (map unread_of walk.unread.items ++ unread)
 
   -- the root alone is left
   pub begins : (walk : Walk) → map string_bytes walk.folders.items ≡ [] ∷ [] → walk.met.items ≡ []
-      → map string_bytes walk.paths.items ≡ [] → map string_bytes walk.unread.items ≡ [] → IsWalk walk
+      → map string_bytes walk.paths.items ≡ [] → map unread_of walk.unread.items ≡ [] → IsWalk walk
   begins walk folders met paths unread =
       λ sources gone is.
-      subst (λ l. AreFound lists [] ([] ∷ []) (l ++ sources) (map string_bytes walk.unread.items ++ gone)) (sym paths)
+      subst (λ l. AreFound lists [] ([] ∷ []) (l ++ sources) (map unread_of walk.unread.items ++ gone)) (sym paths)
       (subst (λ l. AreFound lists [] ([] ∷ []) sources (l ++ gone)) (sym unread)
       (subst (λ l. AreFound lists [] l sources gone) folders
       (subst (λ l. AreFound lists l (map string_bytes walk.folders.items) sources gone) met is)))
@@ -166,21 +167,21 @@ module _ (lists : List ℕ → Option Listing → Type 0) where
       (next_level step.have step.keep step.by_bytes is) in
       let found = sym (append_assoc (map string_bytes old.paths.items) step.sources sources)
       ∙ ap (λ l. l ++ sources) (sym step.sources_are) in
-      let gone = sym (append_assoc (map string_bytes old.unread.items) step.unread unread)
+      let gone = sym (append_assoc (map unread_of old.unread.items) step.unread unread)
       ∙ ap (λ l. l ++ unread) (sym step.unread_are) in
-      subst (λ l. AreFound lists [] ([] ∷ []) l (map string_bytes new.unread.items ++ unread)) found
+      subst (λ l. AreFound lists [] ([] ∷ []) l (map unread_of new.unread.items ++ unread)) found
       (subst (λ l. AreFound lists [] ([] ∷ []) (map string_bytes old.paths.items ++ (step.sources ++ sources)) l) gone
       all)
 
   -- no folder is left
   pub ends : (walk : Walk) (paths : List (List ℕ)) → IsWalk walk → walk.folders.items ≡ []
       → AreByBytes (map string_bytes walk.paths.items) paths
-      → AreWalked lists paths (map string_bytes walk.unread.items)
+      → AreWalked lists paths (map unread_of walk.unread.items)
   ends walk paths is none by = record {
     found = map string_bytes walk.paths.items;
     below_root =
         let found = map string_bytes walk.paths.items in
-        let unread = map string_bytes walk.unread.items in
+        let unread = map unread_of walk.unread.items in
         let left = subst (λ l. AreFound lists walk.met.items (map string_bytes l) [] []) (sym none) nowhere in
         subst (λ l. AreFound lists [] ([] ∷ []) l unread) (append-nil found)
         (subst (λ l. AreFound lists [] ([] ∷ []) (found ++ []) l) (append-nil unread) (is [] [] left));

@@ -1,82 +1,92 @@
--- Texts by their bytes, each once.
-use Rattle.std.proofs.Common.{◌≡◌, ◌∙◌, ℕ, true, List, [], ◌∷◌, map, inl, inr, sym, subst, string_bytes}
+-- Items by a view of them, each once.
+use Rattle.std.proofs.Common.{◌≡◌, ◌∙◌, ◌↔◌, ℕ, Bool, true, List, [], ◌∷◌, map, inl, inr, sym, subst, string_bytes}
+use Rattle.std.specs.Cmp.{IsEquivalence, IsTotalOrder}
 use Rattle.std.specs.Cmp.Lexicographic.{slice_cmp, texts_ties}
 use Rattle.std.specs.List.{AllByRecursion, Contains, dedup}
 use Rattle.std.specs.List.Sorted.{IsPermutation, IsSorted, IsStrictlySortedBy}
-use Rattle.std.specs.Ordering.{nat_cmp}
+use Rattle.std.specs.Ordering.{eq_by_cmp, nat_cmp}
+use Rattle.std.specs.declared.cmp.Ordering.{Ordering}
 use Rattle.std.specs.declared.cmp.Ordering.TheVariants.{Less}
-use Rattle.std.specs.String.{string_eq, string_eq_equiv}
+use Rattle.std.specs.String.{string_eq}
 use Rattle.std.specs.declared.string.String.{String}
-use Rattle.std.proofs.lemmas.Cmp.{nat_list_cmp_total, on_total}
+use Rattle.std.proofs.lemmas.Cmp.{eq_by_cmp_equiv, nat_list_cmp_total, on_equiv, on_total}
 use Rattle.std.proofs.lemmas.List.Elements.{Contains-append_cases, Contains-append_left, Contains-append_right}
 use Rattle.std.proofs.lemmas.List.Elements.{Contains-push}
 use Rattle.std.proofs.lemmas.List.Kept.{Any-dedup, Contains-from_dedup, IsStrictlySortedBy-dedup}
 use Rattle.std.proofs.lemmas.List.Sorted.{Contains-permutation, IsPermutation-sym}
-use Rattle.std.proofs.lemmas.Map.Lookups.{exact_bytes}
-use Rattle.std.proofs.lemmas.Map.Views.{tells_apart}
 use Rattle.basics.proofs.ListLemmas.{in_nothing as none_among, only as the_one}
 use Rattle.source_files.specs.Walks.{AreOnce}
+use Rattle.source_files.proofs.UnreadEntryLemmas.{equal_texts}
 
--- a text among texts is that of an element, and each element's is there
-from_texts : {S : Type 0} (text : S → List ℕ) (xs : List S) (t : List ℕ) → Contains (map text xs) t
-    → (x : S) × Contains xs x × (text x ≡ t)
-from_texts text [] t there = absurd (none_among t there)
-from_texts text (x ∷ xs) t there = elim (Contains-append_cases (text x ∷ []) (map text xs) t there) [
-  | inl here ↦ (x, Contains-append_left (x ∷ []) xs x (Contains-push [] x), the_one (text x) t here)
-  | inr behind ↦ let (y, within, same) = from_texts text xs t behind in
+-- a view among views is that of an element, and each element's is there
+from_views : {S V : Type 0} (view : S → V) (xs : List S) (v : V) → Contains (map view xs) v
+    → (x : S) × Contains xs x × (view x ≡ v)
+from_views view [] v there = absurd (none_among v there)
+from_views view (x ∷ xs) v there = elim (Contains-append_cases (view x ∷ []) (map view xs) v there) [
+  | inl here ↦ (x, Contains-append_left (x ∷ []) xs x (Contains-push [] x), the_one (view x) v here)
+  | inr behind ↦ let (y, within, same) = from_views view xs v behind in
       (y, Contains-append_right (x ∷ []) xs y within, same)
 ]
 
-into_texts : {S : Type 0} (text : S → List ℕ) (xs : List S) (x : S) → Contains xs x → Contains (map text xs) (text x)
-into_texts text [] x there = absurd (none_among x there)
-into_texts {S = S} text (y ∷ xs) x there = elim (Contains-append_cases (y ∷ []) xs x there) [
-  | inl here ↦ subst (λ (z : S). Contains (text y ∷ map text xs) (text z)) (the_one y x here)
-      (Contains-append_left (text y ∷ []) (map text xs) (text y) (Contains-push [] (text y)))
-  | inr behind ↦ Contains-append_right (text y ∷ []) (map text xs) (text x) (into_texts text xs x behind)
+into_views : {S V : Type 0} (view : S → V) (xs : List S) (x : S) → Contains xs x → Contains (map view xs) (view x)
+into_views view [] x there = absurd (none_among x there)
+into_views {S = S} view (y ∷ xs) x there = elim (Contains-append_cases (y ∷ []) xs x there) [
+  | inl here ↦ subst (λ (z : S). Contains (view y ∷ map view xs) (view z)) (the_one y x here)
+      (Contains-append_left (view y ∷ []) (map view xs) (view y) (Contains-push [] (view y)))
+  | inr behind ↦ Contains-append_right (view y ∷ []) (map view xs) (view x) (into_views view xs x behind)
 ]
 
--- texts that rise strictly
-all_texts : {S : Type 0} (text : S → List ℕ) (P : List ℕ → Type 0) (xs : List S)
-    → AllByRecursion (λ x. P (text x)) xs → AllByRecursion P (map text xs)
-all_texts text P [] all = tt
-all_texts text P (x ∷ xs) all = (all.0, all_texts text P xs all.1)
+-- views that rise strictly
+all_views : {S V : Type 0} (view : S → V) (P : V → Type 0) (xs : List S) → AllByRecursion (λ x. P (view x)) xs
+    → AllByRecursion P (map view xs)
+all_views view P [] all = tt
+all_views view P (x ∷ xs) all = (all.0, all_views view P xs all.1)
 
-rising_texts : {S : Type 0} (text : S → List ℕ) (xs : List S)
-    → IsStrictlySortedBy (λ (a b : S). slice_cmp nat_cmp (text a) (text b)) xs
-    → IsStrictlySortedBy (slice_cmp nat_cmp) (map text xs)
+rising_views : {S V : Type 0} (view : S → V) (cmp : V → V → Ordering) (xs : List S)
+    → IsStrictlySortedBy (λ (a b : S). cmp (view a) (view b)) xs → IsStrictlySortedBy cmp (map view xs)
 unfolding IsStrictlySortedBy
-rising_texts text [] up = tt
-rising_texts text (x ∷ xs) up =
-    (all_texts text (λ t. slice_cmp nat_cmp (text x) t ≡ Less) xs up.0, rising_texts text xs up.1)
+rising_views view cmp [] up = tt
+rising_views view cmp (x ∷ xs) up =
+    (all_views view (λ v. cmp (view x) v ≡ Less) xs up.0, rising_views view cmp xs up.1)
 
-module _ {Z : Type 0} where
-  abbrev text : String Z → List ℕ
-  text x = string_bytes x
+-- sorted items without those whose view is that of the one before
+module _ {S V : Type 0} (view : S → V) (cmp : V → V → Ordering) (total : IsTotalOrder cmp)
+    (exact : (v w : V) → eq_by_cmp cmp v w ≡ true → v ≡ w)
+    (E : S → S → Bool)
+    (ties : (x y : S) → E x y ≡ eq_by_cmp cmp (view x) (view y)) where
+  same_view : (x y : S) → E x y ≡ true → view x ≡ view y
+  same_view x y same = exact (view x) (view y) (sym (ties x y) ∙ same)
 
-  same_text : (x y : String Z) → string_eq x y ≡ true → text x ≡ text y
-  same_text x y same = tells_apart exact_bytes (text x) (text y) (sym (texts_ties (text x) (text y)) ∙ same)
-
-  -- sorted texts without those that are the same as the one before
-  pub are_once : (paths sorted once : List (String Z)) → IsPermutation paths sorted
-      → IsSorted (λ (a b : String Z). slice_cmp nat_cmp (text a) (text b)) sorted → once ≡ dedup string_eq sorted
-      → AreOnce (map text paths) (map text once)
-  are_once paths sorted once all up is = subst (λ (l : List (String Z)). AreOnce (map text paths) (map text l)) (sym is)
-      (record {
-        same = λ path. (
+  pub each_once : (all sorted once : List S) → IsPermutation all sorted
+      → IsSorted (λ (a b : S). cmp (view a) (view b)) sorted → once ≡ dedup E sorted
+      → ((v : V) → Contains (map view once) v ↔ Contains (map view all) v)
+      × IsStrictlySortedBy cmp (map view once)
+  each_once all sorted once whole up is = subst (λ (l : List S). ((v : V) → Contains (map view l) v
+      ↔ Contains (map view all) v) × IsStrictlySortedBy cmp (map view l)) (sym is) (
+        λ v. (
           λ there.
-              let (x, within, same) = from_texts text (dedup string_eq sorted) path there in
-              subst (Contains (map text paths)) same
-              (into_texts text paths x
-              (Contains-permutation sorted paths x (IsPermutation-sym paths sorted all)
-              (Contains-from_dedup string_eq sorted x within))),
+              let (x, within, same) = from_views view (dedup E sorted) v there in
+              subst (Contains (map view all)) same
+              (into_views view all x
+              (Contains-permutation sorted all x (IsPermutation-sym all sorted whole)
+              (Contains-from_dedup E sorted x within))),
           λ there.
-              let (x, within, same) = from_texts text paths path there in
-              let (k, y, inside, stands, equal) = Any-dedup string_eq_equiv sorted x
-              (Contains-permutation paths sorted x all within) in
-              subst (Contains (map text (dedup string_eq sorted))) (sym (same_text x y equal) ∙ same)
-              (into_texts text (dedup string_eq sorted) y (k, inside, stands)),
-        );
-        ascends = rising_texts text (dedup string_eq sorted)
-            (IsStrictlySortedBy-dedup (on_total text nat_list_cmp_total) {E = string_eq}
-            (λ x y. texts_ties (text x) (text y)) sorted up);
-      })
+              let (x, within, same) = from_views view all v there in
+              let (k, y, inside, stands, equal) = Any-dedup
+              (subst IsEquivalence (λ i x y. sym (ties x y) i) (on_equiv view (eq_by_cmp_equiv total))) sorted x
+              (Contains-permutation all sorted x whole within) in
+              subst (Contains (map view (dedup E sorted))) (sym (same_view x y equal) ∙ same)
+              (into_views view (dedup E sorted) y (k, inside, stands)),
+        ),
+        rising_views view cmp (dedup E sorted)
+            (IsStrictlySortedBy-dedup (on_total view total) {E = E} ties sorted up),
+      )
+
+-- texts by their bytes
+pub are_once : {Z : Type 0} (paths sorted once : List (String Z)) → IsPermutation paths sorted
+    → IsSorted (λ (a b : String Z). slice_cmp nat_cmp (string_bytes a) (string_bytes b)) sorted
+    → once ≡ dedup string_eq sorted → AreOnce (map string_bytes paths) (map string_bytes once)
+are_once paths sorted once whole up is =
+    let all = each_once string_bytes (slice_cmp nat_cmp) nat_list_cmp_total equal_texts string_eq
+    (λ x y. texts_ties (string_bytes x) (string_bytes y)) paths sorted once whole up is in
+    record { same = all.0; ascends = all.1 }

@@ -17,6 +17,7 @@ use Rattle.std.proofs.lemmas.Slice.Eq.{bytes_eq-Decides}
 use Rattle.source_files.specs.declared.listing.FolderIdentity.{FolderIdentity}
 use Rattle.source_files.specs.Entries.{Entry, Give, nothing, a_source, a_folder, neither}
 use Rattle.source_files.specs.Listings.{Listing}
+use Rattle.source_files.specs.Unread.{Unread, in_folder}
 use Rattle.source_files.specs.Walks.{Had, Holds, unlisted, listed, Has, Keep, none_left, keeps, passes}
 use Rattle.source_files.specs.Walks.{AreByBytes, AreFound, nowhere, next_level}
 use Rattle.source_files.specs.WalkLaws.{OneListing}
@@ -115,7 +116,7 @@ abbrev had_by : (folder : List ℕ) (folders sources : List (List ℕ)) → List
 had_by folder folders sources listing = record {
   folders = folders;
   sources = sources;
-  unread = map (λ name. folder ++ name) listing.unnamed;
+  unread = map (in_folder folder) listing.unnamed;
   identity = listing.identity;
 }
 
@@ -130,15 +131,16 @@ holds_one {folder = folder} (listed {listing = listing} {folders = folders} {sou
     ∙ ap (λ (l : List (List ℕ)). had_by folder others l listing) parts.1
 
 -- what is kept is one
-record SameKept (folders others sources longer unread gone : List (List ℕ)) (after later : List FolderIdentity) : Type 0
-  where
-    folders_are : folders ≡ others
-    sources_are : sources ≡ longer
-    unread_are : unread ≡ gone
-    after_are : after ≡ later
+record SameKept (folders others sources longer : List (List ℕ)) (unread gone : List Unread)
+    (after later : List FolderIdentity) : Type 0 where
+  folders_are : folders ≡ others
+  sources_are : sources ≡ longer
+  unread_are : unread ≡ gone
+  after_are : after ≡ later
 
 kept_one : {met after later : List FolderIdentity} {all : List Had}
-    {folders others sources longer unread gone : List (List ℕ)} → Keep met all folders sources unread after
+    {folders others sources longer : List (List ℕ)} {unread gone : List Unread}
+    → Keep met all folders sources unread after
     → Keep met all others longer gone later → SameKept folders others sources longer unread gone after later
 kept_one none_left none_left = record { folders_are = refl; sources_are = refl; unread_are = refl; after_are = refl }
 kept_one (keeps {had = had} new rest) (keeps newly more) =
@@ -146,7 +148,7 @@ kept_one (keeps {had = had} new rest) (keeps newly more) =
     record {
       folders_are = ap (λ (l : List (List ℕ)). had.folders ++ l) same.folders_are;
       sources_are = ap (λ (l : List (List ℕ)). had.sources ++ l) same.sources_are;
-      unread_are = ap (λ (l : List (List ℕ)). had.unread ++ l) same.unread_are;
+      unread_are = ap (λ (l : List Unread). had.unread ++ l) same.unread_are;
       after_are = same.after_are;
     }
 kept_one (keeps new rest) (passes known more) = absurd (new known)
@@ -154,7 +156,8 @@ kept_one (passes known rest) (keeps new more) = absurd (new known)
 kept_one (passes known rest) (passes again more) = kept_one rest more
 
 -- of nothing nothing is kept
-kept_none : {met after : List FolderIdentity} {all : List Had} {folders sources unread : List (List ℕ)} → all ≡ []
+kept_none : {met after : List FolderIdentity} {all : List Had} {folders sources : List (List ℕ)}
+    {unread : List Unread} → all ≡ []
     → Keep met all folders sources unread after → (folders ≡ []) × (sources ≡ []) × (unread ≡ [])
 kept_none none none_left = (refl, refl, refl)
 kept_none none (keeps new rest) = absurd cc
@@ -197,28 +200,28 @@ module _ (lists : List ℕ → Option Listing → Type 0)
     have_none [] (had ∷ all) none have = absurd have
     have_none (folder ∷ level) (had ∷ all) none have = absurd cc
 
-    none_found : {met : List FolderIdentity} {level sources unread : List (List ℕ)} → level ≡ []
+    none_found : {met : List FolderIdentity} {level sources : List (List ℕ)} {unread : List Unread} → level ≡ []
         → AreFound lists met level sources unread → (sources ≡ []) × (unread ≡ [])
     none_found none nowhere = (refl, refl)
-    none_found none (next_level {level = level} {folders = folders} {next = next} {here = here} {gone = gone}
-        {sources = sources} {unread = unread} {all = all} have keep by below) =
+    none_found none (next_level {level = level} {folders = folders} {next = next} {here = here}
+        {sources = sources} {gone = gone} {unread = unread} {all = all} have keep by below) =
         let kept = kept_none (have_none level all none have) keep in
         let others = none_found (none_by_bytes folders next kept.0 by) below in (
           ap₂ (λ (l : List (List ℕ)) (m : List (List ℕ)). l ++ m) kept.1 others.0,
-          ap₂ (λ (l : List (List ℕ)) (m : List (List ℕ)). l ++ m) kept.2 others.1,
+          ap₂ (λ (l : List Unread) (m : List Unread). l ++ m) kept.2 others.1,
         )
 
-    abbrev Same : (sources longer unread gone : List (List ℕ)) → Type 0
+    abbrev Same : (sources longer : List (List ℕ)) (unread gone : List Unread) → Type 0
     Same sources longer unread gone = (sources ≡ longer) × (unread ≡ gone)
 
-    found_one : {met : List FolderIdentity} {level sources unread longer gone : List (List ℕ)}
+    found_one : {met : List FolderIdentity} {level sources longer : List (List ℕ)} {unread gone : List Unread}
         → AreFound lists met level sources unread
         → AreFound lists met level longer gone → Same sources longer unread gone
     found_one nowhere again = let none = none_found refl again in (sym none.0, sym none.1)
     found_one (next_level have keep by below) nowhere = none_found refl (next_level have keep by below)
     found_one {met = met} (next_level {after = after} {level = level} {folders = folders} {next = next} {here = here}
         {gone = gone} {all = all} have keep by below) (next_level {after = later} {folders = others} {next = coming} {here = near}
-        {gone = away} {sources = longer} {unread = lost} {all = whole} again kept sorted beyond) =
+        {sources = longer} {gone = away} {unread = lost} {all = whole} again kept sorted beyond) =
         let same : all ≡ whole = have_one level all whole have again in
         let parts = kept_one keep (subst (λ (l : List Had). Keep met l others near away later) (sym same) kept) in
         let coming_is = by_bytes_one folders others next coming parts.folders_are by sorted in
@@ -226,7 +229,7 @@ module _ (lists : List ℕ → Option Listing → Type 0)
         (subst (λ (l : List (List ℕ)). AreFound lists after l longer lost) (sym coming_is)
         (subst (λ (l : List FolderIdentity). AreFound lists l coming longer lost) (sym parts.after_are) beyond)) in (
           ap₂ (λ (l : List (List ℕ)) (m : List (List ℕ)). l ++ m) parts.sources_are rest.0,
-          ap₂ (λ (l : List (List ℕ)) (m : List (List ℕ)). l ++ m) parts.unread_are rest.1,
+          ap₂ (λ (l : List Unread) (m : List Unread). l ++ m) parts.unread_are rest.1,
         )
 
 pub one_listing : (lists : List ℕ → List ℕ → Option Listing → Type 0) → OneListing lists

@@ -1,4 +1,4 @@
--- The files that sources see, level by level: which paths are new, and what was found so far.
+-- The files that sources reach, level by level: which paths are new, and what was found so far.
 use Rattle.std.specs.Prelude.{◌≡◌, ◌⊎◌, ◌↔◌, ◌&&◌, ℕ, ⊤, Bool, true, false, not, List, [], ◌∷◌, ◌++◌, map, All, Contains}
 use Rattle.std.specs.Prelude.{String, string_bytes, if◌then◌else◌}
 use Rattle.std.specs.Global.{Global}
@@ -9,7 +9,7 @@ use Rattle.source_files.specs.declared.looking.Looked.{Looked}
 use Rattle.source_files.specs.declared.looking.Looked.TheVariants.{Found, LeftOut, Nowhere}
 use Rattle.source_files.specs.declared.load_fault.LoadFault.{LoadFault}
 use Rattle.source_files.specs.declared.load_fault.LoadFault.TheVariants.{Unreadable, Memory}
-use Rattle.source_files.specs.Seen.{Import, Told}
+use Rattle.source_files.specs.Reached.{Import, Told, descriptor_path}
 use Rattle.source_files.specs.Walks.{AreOnce}
 
 -- the paths in a set
@@ -41,7 +41,7 @@ AddsFresh paths known_old known_new old new =
     (before : List (List ℕ)) → Same known_old before → (more : List (List ℕ)) × AreFresh before paths more
     × Same known_new (before ++ more) × (new ≡ old ++ more)
 
--- what those who see a file look for by an import: of an included file, only what it imports publicly
+-- what is looked for by an import of a file: what it imports, or only what it imports publicly
 abbrev pub wanted_by : (publicly : Bool) → Import → List (List ℕ)
 wanted_by publicly import = if publicly && not import.is_public then [] else import.path ∷ []
 
@@ -50,6 +50,16 @@ wanted_of publicly imports = flat_map (wanted_by publicly) imports
 
 abbrev pub wanted_in : (publicly : Bool) → List Told → List (List ℕ)
 wanted_in publicly files = flat_map (λ told. wanted_of publicly told.imports) files
+
+-- the file with the messages of options, if names in options are linked and there is a source
+abbrev pub built_in_of : (links_options : Bool) → (sources : List Told) → List (List ℕ)
+built_in_of false sources = []
+built_in_of true [] = []
+built_in_of true (source ∷ others) = descriptor_path ∷ []
+
+-- what is looked for at first: what sources import, and the file with the messages of options
+abbrev pub wanted_first : (links_options : Bool) → (sources : List Told) → List (List ℕ)
+wanted_first links_options sources = wanted_in false sources ++ built_in_of links_options sources
 
 -- what was found, and what is left out
 pub record Gathered : Type 0 where

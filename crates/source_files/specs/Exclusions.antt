@@ -4,6 +4,7 @@ use Rattle.std.specs.List.{slice_split}
 use Rattle.globs.specs.Exclusions.{IsExcluded}
 use Rattle.source_files.specs.Entries.{Entry}
 use Rattle.source_files.specs.Listings.{Listing}
+use Rattle.source_files.specs.Unread.{Unread}
 
 -- of what has these names in a folder, in its order, what isn't excluded
 pub data Stay {A : Type 0} (name_of : A → List ℕ) (patterns : List (List ℕ)) (folder : List ℕ)
@@ -26,7 +27,7 @@ pub data IsLeftOf (patterns : List (List ℕ)) (folder : List ℕ) : (gave left 
   nothing : IsLeftOf patterns folder None None
   some : {listing left : Listing}
       → Stay (λ (entry : Entry). entry.name) patterns folder listing.entries left.entries
-      → Stay (λ (name : List ℕ). name) patterns folder listing.unnamed left.unnamed
+      → Stay (λ (named : Unread). named.shown) patterns folder listing.unnamed left.unnamed
       → left.identity ≡ listing.identity
       → IsLeftOf patterns folder (Some listing) (Some left)
 

@@ -3,6 +3,7 @@ pub mod Source
 pub mod SystemFiles
 -- what folders have, and what is listed below a root
 pub mod Entries
+pub mod Unread
 pub mod Listings
 pub mod Exclusions
 pub mod WellKnown
@@ -16,11 +17,12 @@ pub mod RootFaults
 pub mod RootLaws
 pub mod Reading
 -- the tree below a root and included roots, and why there is none
+pub mod Taken
 pub mod Loads
 pub mod LoadFaults
 -- which sources a list names, and the files that they see
 pub mod SourceLists
-pub mod Seen
+pub mod Reached
 pub mod Looks
 pub mod Closures
 pub mod ListedTrees

@@ -5,7 +5,8 @@ use Rattle.source_tree.specs.Refusals.{AreTooMany}
 use Rattle.source_files.specs.Listings.{Listing}
 use Rattle.source_files.specs.declared.load_fault.LoadFault.{LoadFault}
 use Rattle.source_files.specs.declared.load_fault.LoadFault.TheVariants.{Unreadable, TooMany, BadPath, SamePath, Memory}
-use Rattle.source_files.specs.Roots.{IsUnreadableBelow}
+use Rattle.source_files.specs.Roots.{FilesBelow, IsUnreadableBelow}
+use Rattle.source_files.specs.Taken.{OfTaken}
 use Rattle.source_files.specs.Loads.{HasBadPath, HasSamePath}
 
 -- the name in a line that says so (the names are this project's own)
@@ -31,3 +32,9 @@ MayRefuseFiles sources included TooMany = AreTooMany sources included
 MayRefuseFiles sources included (BadPath path) = HasBadPath (string_bytes path) sources included
 MayRefuseFiles sources included (SamePath path) = HasSamePath (string_bytes path) sources included
 MayRefuseFiles sources included Memory = ⊤
+
+-- why those make none that are taken below a root and included roots
+abbrev pub MayRefuseTaken : (leaves_out : Bool) → (own : FilesBelow) → (others : List FilesBelow) → LoadFault → Type 0
+MayRefuseTaken leaves_out own others Memory = ⊤
+MayRefuseTaken leaves_out own others fault =
+    OfTaken leaves_out own others (λ sources included bad. MayRefuseFiles sources included fault)

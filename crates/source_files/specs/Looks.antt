@@ -3,7 +3,7 @@ use Rattle.std.specs.Prelude.{◌≡◌, ◌⊎◌, ℕ, ⊤, Bool, true, false,
 use Rattle.std.specs.Prelude.{string_bytes}
 use Rattle.std.specs.Borrow.{Bor}
 use Rattle.std.specs.List.{AllZip}
-use Rattle.source_files.specs.Seen.{Import, IsFirstBelow, HasNone, IsTold, CantBeRead, path_of}
+use Rattle.source_files.specs.Reached.{Import, IsFirstBelow, HasNone, IsTold, CantBeRead, path_of}
 use Rattle.source_files.specs.declared.load_fault.LoadFault.{LoadFault}
 use Rattle.source_files.specs.declared.load_fault.LoadFault.TheVariants.{Unreadable, Memory}
 use Rattle.source_files.specs.declared.looking.Looked.{Looked}

@@ -4,20 +4,21 @@ use Rattle.std.specs.Prelude.{string_bytes}
 use Rattle.std.specs.List.{AllZip, flat_map}
 use Rattle.source_tree.specs.Files.{SourceFile, paths_of}
 use Rattle.source_files.specs.Listings.{Listing}
+use Rattle.source_files.specs.Unread.{Unread, at_path}
 use Rattle.source_files.specs.declared.load_fault.LoadFault.{LoadFault}
 use Rattle.source_files.specs.declared.load_fault.LoadFault.TheVariants.{Unreadable, Memory}
 use Rattle.source_files.specs.declared.reading.ReadSource.{ReadSource}
 use Rattle.source_files.specs.declared.reading.ReadSource.TheVariants.{Held, LeftOut}
 use Rattle.source_files.specs.Roots.{AreRead, FilesBelow, IsHeld, path_below}
 
--- the source, if it is held, and its path, if it is left out
+-- the source, if it is held; what is left out
 abbrev pub held_of : ReadSource → List SourceFile
 held_of (Held source) = source ∷ []
 held_of (LeftOut path) = []
 
-abbrev pub left_of : ReadSource → List (List ℕ)
+abbrev pub left_of : ReadSource → List Unread
 left_of (Held source) = []
-left_of (LeftOut path) = string_bytes path ∷ []
+left_of (LeftOut path) = at_path (string_bytes path) ∷ []
 
 -- what was read of sources comes behind what was read before
 pub record AddsRead (all : List ReadSource) (old new : FilesBelow) : Type 0 where

@@ -3,6 +3,7 @@ use Rattle.std.specs.Prelude.{◌≡◌, ℕ, Bool, true, false, List, [], ◌�
 use Rattle.std.specs.List.{AllZip, flat_map}
 use Rattle.source_tree.specs.Files.{SourceFile, paths_of}
 use Rattle.source_files.specs.Listings.{Listing}
+use Rattle.source_files.specs.Unread.{Unread, at_path}
 use Rattle.source_files.specs.Source.{MayKeep}
 use Rattle.source_files.specs.Walks.{AreListed, AreWalked, IsRootUnlisted, IsUnlisted}
 
@@ -10,17 +11,17 @@ use Rattle.source_files.specs.Walks.{AreListed, AreWalked, IsRootUnlisted, IsUnl
 abbrev pub path_below : List ℕ → List ℕ → List ℕ
 path_below root path = root ++ (47 ∷ path)
 
--- files below a root, and the paths below it of what is left out
+-- files below a root, and what is left out there
 pub record FilesBelow : Type 0 where
   pub files : List SourceFile
-  pub unread : List (List ℕ)
+  pub unread : List Unread
 
 -- those below several roots, root by root
 abbrev pub files_of : List FilesBelow → List SourceFile
 files_of roots = flat_map (λ below. below.files) roots
 
-abbrev pub unread_of : List FilesBelow → List (List ℕ)
-unread_of roots = flat_map (λ below. below.unread) roots
+abbrev pub all_unread : List FilesBelow → List Unread
+all_unread roots = flat_map (λ below. below.unread) roots
 
 module _ (lists : List ℕ → List ℕ → Option Listing → Type 0) (gives : List ℕ → Option (List ℕ) → Type 0) where
   -- a source has what its file below the root gave, as far as that is kept
@@ -41,25 +42,25 @@ module _ (lists : List ℕ → List ℕ → Option Listing → Type 0) (gives : 
         → All (IsHeld root) sources
         → gives (path_below root path) None → IsUnreadable root path
 
-  -- of the sources with these paths below a root, in their order, those that can be read, and the paths of the others
-  pub data AreRead (root : List ℕ) : (paths : List (List ℕ)) → List SourceFile → (unread : List (List ℕ)) → Type 0
+  -- of the sources with these paths below a root, in their order, those that can be read, and the others
+  pub data AreRead (root : List ℕ) : (paths : List (List ℕ)) → List SourceFile → (unread : List Unread) → Type 0
     where
       no_path : AreRead root [] [] []
-      is_read : {source : SourceFile} {paths unread : List (List ℕ)} {sources : List SourceFile}
+      is_read : {source : SourceFile} {paths : List (List ℕ)} {sources : List SourceFile} {unread : List Unread}
           → IsHeld root source → AreRead root paths sources unread
           → AreRead root (source.path ∷ paths) (source ∷ sources) unread
-      is_unread : {path : List ℕ} {paths unread : List (List ℕ)} {sources : List SourceFile}
+      is_unread : {path : List ℕ} {paths : List (List ℕ)} {sources : List SourceFile} {unread : List Unread}
           → gives (path_below root path) None → AreRead root paths sources unread
-          → AreRead root (path ∷ paths) sources (path ∷ unread)
+          → AreRead root (path ∷ paths) sources (at_path path ∷ unread)
 
   -- The sources below a root that can be read, where the others are left out, with all else found there that can't be
   -- read. The root itself, whose path is empty, can be listed.
   pub record AreBelowBut (root : List ℕ) (below : FilesBelow) : Type 0 where
     pub paths : List (List ℕ)
-    pub unlisted : List (List ℕ)
-    pub unheld : List (List ℕ)
+    pub unlisted : List Unread
+    pub unheld : List Unread
     pub walked : AreWalked (lists root) paths unlisted
-    pub root_listed : ¬ (Contains unlisted [])
+    pub root_listed : ¬ (Contains unlisted (at_path []))
     pub read : AreRead root paths below.files unheld
     pub unread_are : below.unread ≡ unlisted ++ unheld
 

@@ -3,6 +3,7 @@ use Rattle.std.specs.Prelude.{◌≡◌, ℕ, List, [], ◌∷◌, ◌++◌, Opt
 use Rattle.std.specs.List.{flat_map}
 use Rattle.source_files.specs.Entries.{IsName}
 use Rattle.source_files.specs.Listings.{Listing}
+use Rattle.source_files.specs.Unread.{Unread}
 use Rattle.source_files.specs.PlainWalks.{AreListedBelow, CantBeListed}
 use Rattle.source_files.specs.Walks.{AreListed, AreWalked, IsUnlisted}
 
@@ -23,8 +24,8 @@ pub record StaysBelow (path : List ℕ) : Type 0 where
 
 -- so it is with the path of each source found below a root, whatever can't be read there
 abbrev pub ListedStayBelow : (List ℕ → List ℕ → Option Listing → Type 0) → Type 0
-ListedStayBelow lists = (root : List ℕ) (paths unread : List (List ℕ)) → AreWalked (lists root) paths unread
-    → All StaysBelow paths
+ListedStayBelow lists = (root : List ℕ) (paths : List (List ℕ)) (unread : List Unread)
+    → AreWalked (lists root) paths unread → All StaysBelow paths
 
 -- each folder has one listing at most, or can't be listed
 abbrev pub ListOnce : (List ℕ → List ℕ → Option Listing → Type 0) → Type 0

@@ -11,6 +11,7 @@ use Rattle.source_files.specs.Entries.{Entry, Give}
 use Rattle.source_files.specs.Listings.{Listing}
 use Rattle.source_files.specs.Walks.{Had, Has, IsMet, Keep, AreByBytes, AreListed, AreWalked, IsRootUnlisted, IsUnlisted}
 use Rattle.source_files.specs.Walks.{met_with}
+use Rattle.source_files.specs.Unread.{Unread, at_path, unread_of}
 
 -- Why folders aren't listed. `Unreadable` names the root, and comes only if this holds. `Memory` may always come, and no
 -- other fault.
@@ -20,16 +21,16 @@ MayNotList Unlisted root Memory = ⊤
 MayNotList Unlisted root other = ⊥
 
 -- what can't be read stops a walk: anything, or, where it is left out, the root itself, whose path is empty
-abbrev pub Stops : (leaves_out : Bool) → (unread : List (List ℕ)) → Type 0
+abbrev pub Stops : (leaves_out : Bool) → (unread : List Unread) → Type 0
 Stops false unread = unread ≢ []
-Stops true unread = Contains unread []
+Stops true unread = Contains unread (at_path [])
 
 -- the paths of the sources listed below a root, and of what is left out there: nothing, or all that can't be read but
 -- the root itself
-abbrev pub AreListedBut : (List ℕ → Option Listing → Type 0) → (leaves_out : Bool) → (paths unread : List (List ℕ))
-    → Type 0
+abbrev pub AreListedBut : (List ℕ → Option Listing → Type 0) → (leaves_out : Bool) → (paths : List (List ℕ))
+    → (unread : List Unread) → Type 0
 AreListedBut lists false paths unread = AreListed lists paths × (unread ≡ [])
-AreListedBut lists true paths unread = AreWalked lists paths unread × ¬ (Contains unread [])
+AreListedBut lists true paths unread = AreWalked lists paths unread × ¬ (Contains unread (at_path []))
 
 -- they aren't listed: something can't be read, or, where such is left out, the root itself
 abbrev pub StopsWalk : (List ℕ → Option Listing → Type 0) → (leaves_out : Bool) → Type 0
@@ -50,7 +51,7 @@ abbrev pub had_of : Found → Had
 had_of found = record {
   folders = map string_bytes found.folders.items;
   sources = map string_bytes found.paths.items;
-  unread = map string_bytes found.unread.items;
+  unread = map unread_of found.unread.items;
   identity = found.identity;
 }
 
@@ -64,11 +65,11 @@ pub data Meets (met : List FolderIdentity) (identity : Option FolderIdentity)
 pub record KeepsMore (all : List Had) (old new : Walk) : Type 0 where
   pub folders : List (List ℕ)
   pub sources : List (List ℕ)
-  pub unread : List (List ℕ)
+  pub unread : List Unread
   pub keep : Keep old.met.items all folders sources unread new.met.items
   pub folders_are : map string_bytes new.folders.items ≡ map string_bytes old.folders.items ++ folders
   pub sources_are : map string_bytes new.paths.items ≡ map string_bytes old.paths.items ++ sources
-  pub unread_are : map string_bytes new.unread.items ≡ map string_bytes old.unread.items ++ unread
+  pub unread_are : map unread_of new.unread.items ≡ map unread_of old.unread.items ++ unread
 
 -- what each of these folders has
 abbrev pub HaveEach : (List ℕ → Option Listing → Type 0) → (folders : List (List ℕ)) → List Found → Type 0
@@ -79,9 +80,9 @@ pub record GoesOn (lists : List ℕ → Option Listing → Type 0) (old new : Wa
   pub all : List Had
   pub folders : List (List ℕ)
   pub sources : List (List ℕ)
-  pub unread : List (List ℕ)
+  pub unread : List Unread
   pub have : AllZip (Has lists) (map string_bytes old.folders.items) all
   pub keep : Keep old.met.items all folders sources unread new.met.items
   pub by_bytes : AreByBytes folders (map string_bytes new.folders.items)
   pub sources_are : map string_bytes new.paths.items ≡ map string_bytes old.paths.items ++ sources
-  pub unread_are : map string_bytes new.unread.items ≡ map string_bytes old.unread.items ++ unread
+  pub unread_are : map unread_of new.unread.items ≡ map unread_of old.unread.items ++ unread

@@ -1,4 +1,4 @@
-//! The files that sources see, level by level.
+//! The files that sources reach, level by level.
 
 ghost use Rattle.std.specs.Prelude.{
   ◌≡◌,
@@ -21,9 +21,10 @@ ghost use Rattle.std.specs.Prelude.{
   IsTrue,
   ◌&&◌,
   not,
+  if◌then◌else◌,
 };
 ghost use Rattle.source_tree.specs.Trees.{max_files};
-ghost use Rattle.source_files.specs.Seen.{AreIncluded, MayNotInclude};
+ghost use Rattle.source_files.specs.Reached.{AreIncluded, MayNotInclude, descriptor_path};
 ghost use Rattle.source_files.specs.Looks.{AreLooked, GivesLooked, MayStopLooking};
 ghost use Rattle.source_files.specs.Closures.{
   AddsFresh,
@@ -31,8 +32,10 @@ ghost use Rattle.source_files.specs.Closures.{
   PutsPath,
   Same,
   gathered,
+  built_in_of,
   paths_in,
   wanted_by,
+  wanted_first,
   wanted_in,
   wanted_of,
   with_more,
@@ -50,6 +53,9 @@ use std::collections::HashSet;
 use std::marker::Model;
 use std::sync::Wait;
 use std::thread::Threads;
+
+/// Where a source has the messages of its options, if no file that it imports has them.
+const DESCRIPTOR_PATH: &str = "google/protobuf/descriptor.proto";
 
 /// Files that were found, and the paths of those that are left out.
 ///
@@ -247,11 +253,53 @@ fn fresh_of(
     Ok(fresh)
 }
 
-/// Looks for the files with these paths, adds them to those that were found, and gives what they import publicly and
-/// isn't known; it then is.
-fn see_level<R: Threads + Wait, G: Gate, F: ReadFiles + Sync, I: FindImports + Sync>(
+/// Whether the file with the messages of options is looked for: names in options are linked, and there is a source.
+fn is_built_in_wanted(links_options: bool, sources: &[FoundFile]) -> bool
+    ensures { built_in_of links_options sources.now ≡ if result then descriptor_path ∷ [] else [] }
+{
+    links_options && !sources.is_empty()
+}
+
+/// Adds the path of the file with the messages of options, if names in options are linked and there is a source.
+fn add_built_in(
+    alloc: Global,
+    links_options: bool,
+    known: &mut HashSet<String>,
+    fresh: &mut Vec<String>,
+    sources: &[FoundFile],
+) -> Result<(), AllocError>
+    ensures { OnOk result (AddsFresh (built_in_of links_options sources.now) (paths_in known.old) (paths_in known.new)
+        (map string_bytes fresh.old.items) (map string_bytes fresh.new.items)) }
+{
+    if is_built_in_wanted(links_options, sources) {
+        return add_path(alloc, known, fresh, DESCRIPTOR_PATH);
+    }
+    Ok(())
+}
+
+/// What is looked for at first, and isn't known: what sources import, and the file with the messages of options. It then
+/// is.
+fn first_fresh(
+    alloc: Global,
+    links_options: bool,
+    known: &mut HashSet<String>,
+    sources: &[FoundFile],
+) -> Result<Vec<String>, AllocError>
+    ensures { IfOk result (λ fresh. AddsFresh (wanted_first links_options sources.now) (paths_in known.old)
+        (paths_in known.new) []
+        (map string_bytes fresh.items)) }
+{
+    let mut fresh = fresh_of(alloc, false, known, sources)?;
+    add_built_in(alloc, links_options, known, &mut fresh, sources)?;
+    Ok(fresh)
+}
+
+/// Looks for the files with these paths, adds them to those that were found, and gives what they import, publicly or,
+/// if names in options are linked, in any way, and isn't known; it then is.
+fn reach_level<R: Threads + Wait, G: Gate, F: ReadFiles + Sync, I: FindImports + Sync>(
     readers: &Readers<'_, R, G, F>,
     looking: &Looking<'_, F, I>,
+    links_options: bool,
     known: &mut HashSet<String>,
     all: &mut Gathered,
     paths: &[String],
@@ -261,7 +309,7 @@ fn see_level<R: Threads + Wait, G: Gate, F: ReadFiles + Sync, I: FindImports + S
         (I.tells looking.now.finder.now) looking.now.leaves_out looking.now.is_wanted
         (map string_bytes looking.now.roots.now))
         (map string_bytes paths.now) looked × (all.new ≡ with_more all.old (gathered looked))
-        × AddsFresh (wanted_in true (gathered looked).found) (paths_in known.old) (paths_in known.new) []
+        × AddsFresh (wanted_in (not links_options) (gathered looked).found) (paths_in known.old) (paths_in known.new) []
         (map string_bytes fresh.items)) }
     ensures stops { IfErr result (MayStopLooking (GivesLooked (F.finds looking.now.files.now)
         (F.gives looking.now.files.now)
@@ -270,7 +318,7 @@ fn see_level<R: Threads + Wait, G: Gate, F: ReadFiles + Sync, I: FindImports + S
 {
     let looked = look_each(readers, looking, paths)?;
     let level = gather(readers.alloc, looked)?;
-    let fresh = fresh_of(readers.alloc, true, known, &level.found)?;
+    let fresh = fresh_of(readers.alloc, !links_options, known, &level.found)?;
     add_gathered(all, level)?;
     Ok(fresh)
 }
@@ -282,10 +330,11 @@ fn are_too_many(sources: usize, included: usize) -> bool
     sources > MAX_FILES || included > MAX_FILES - sources
 }
 
-/// The files that sources see, whose paths are those that are known.
-pub(crate) fn see_each<R: Threads + Wait, G: Gate, F: ReadFiles + Sync, I: FindImports + Sync>(
+/// The files that sources reach, whose paths are those that are known.
+pub(crate) fn reach_each<R: Threads + Wait, G: Gate, F: ReadFiles + Sync, I: FindImports + Sync>(
     readers: &Readers<'_, R, G, F>,
     looking: &Looking<'_, F, I>,
+    links_options: bool,
     known: HashSet<String>,
     sources: &[FoundFile],
 ) -> Result<Gathered, LoadFault>
@@ -293,17 +342,24 @@ pub(crate) fn see_each<R: Threads + Wait, G: Gate, F: ReadFiles + Sync, I: FindI
     requires lenient { looking.now.leaves_out ≡ true }
     ensures { (listed : List (List ℕ)) → Same (paths_in known) listed → MatchResult result
         (λ all. AreIncluded (F.finds looking.now.files.now) (F.gives looking.now.files.now)
-        (I.tells looking.now.finder.now) looking.now.leaves_out
+        (I.tells looking.now.finder.now) looking.now.leaves_out links_options
         (map string_bytes looking.now.roots.now) listed sources.now all.found all.unread)
         (MayNotInclude (F.finds looking.now.files.now) (F.gives looking.now.files.now)
-        (I.tells looking.now.finder.now) looking.now.leaves_out
+        (I.tells looking.now.finder.now) looking.now.leaves_out links_options
         (map string_bytes looking.now.roots.now) listed sources.now) }
 {
     let mut known = known;
     let mut all = nothing(readers.alloc);
-    let mut fresh = fresh_of(readers.alloc, false, &mut known, sources)?;
+    let mut fresh = first_fresh(readers.alloc, links_options, &mut known, sources)?;
     while !fresh.is_empty() {
-        fresh = see_level(readers, looking, &mut known, &mut all, &fresh)?;
+        fresh = reach_level(
+            readers,
+            looking,
+            links_options,
+            &mut known,
+            &mut all,
+            &fresh,
+        )?;
         if are_too_many(sources.len(), all.found.len()) {
             return Err(LoadFault::TooMany);
         }

@@ -10,6 +10,7 @@ use crate::entry::FolderEntry;
 use crate::listing::FolderListing;
 use crate::look_again::{LookAgain, PassedOver};
 use crate::read_files::ReadFiles;
+use crate::unread_entry::UnreadEntry;
 use globs::is_excluded;
 use std::alloc::{AllocError, Global};
 
@@ -41,13 +42,13 @@ impl Named for FolderEntry {
     }
 }
 
-impl Named for String {
+impl Named for UnreadEntry {
     ghost use Rattle.std.specs.Prelude.{string_bytes};
 
-    ghost name_of = { string_bytes };
+    ghost name_of = { λ entry. string_bytes entry.shown };
 
     fn name(&self) -> &str {
-        self.as_str()
+        self.shown.as_str()
     }
 }
 

@@ -1,7 +1,7 @@
 //! What tells what files import.
 
 ghost use Rattle.std.specs.Prelude.{ℕ, List, IfOk};
-ghost use Rattle.source_files.specs.Seen.{Import};
+ghost use Rattle.source_files.specs.Reached.{Import};
 
 use std::alloc::{AllocError, Global};
 use std::marker::Model;
@@ -19,7 +19,7 @@ pub struct FoundImport {
 
 impl Model for FoundImport {
     ghost use Rattle.std.specs.String.{string_bytes};
-    ghost use Rattle.source_files.specs.Seen.{Import};
+    ghost use Rattle.source_files.specs.Reached.{Import};
 
     ghost Value = { Import };
 

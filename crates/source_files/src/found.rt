@@ -4,12 +4,14 @@ ghost use Rattle.std.specs.Prelude.{◌≡◌, ◌≢◌, ◌↔◌, ◌++◌, [
 ghost use Rattle.std.specs.Prelude.{map, string_bytes};
 ghost use Rattle.source_files.specs.Entries.{Give, IsFolder, IsName, IsSource};
 ghost use Rattle.source_files.specs.Listings.{listing_of};
+ghost use Rattle.source_files.specs.Unread.{at_path, in_folder, unread_of};
 ghost use Rattle.source_files.specs.Walks.{Has, Holds};
 ghost use Rattle.source_files.specs.WalkSteps.{AddsEntries, had_of};
 
 use crate::entry::{ENDING, FolderEntry};
 use crate::listing::{FolderIdentity, FolderListing};
 use crate::read_files::ReadFiles;
+use crate::unread_entry::{UnreadEntry, entry_at, entry_in};
 use std::alloc::{AllocError, Global};
 
 /// What a folder has, by paths below the root.
@@ -20,7 +22,7 @@ pub(crate) struct Found {
     /// The sources.
     pub(crate) paths: Vec<String>,
     /// What can't be read.
-    pub(crate) unread: Vec<String>,
+    pub(crate) unread: Vec<UnreadEntry>,
     /// Which folder it is.
     pub(crate) identity: Option<FolderIdentity>,
 }
@@ -108,16 +110,20 @@ fn found_in(
     Ok((folders, paths))
 }
 
-/// The paths of what has these names in a folder.
-fn paths_in(alloc: Global, folder: &str, names: &[String]) -> Result<Vec<String>, AllocError>
-    ensures { IfOk result (λ paths. map string_bytes paths.items
-        ≡ map (λ name. folder.now ++ string_bytes name) names.now) }
+/// What has these names in a folder.
+fn entries_in(
+    alloc: Global,
+    folder: &str,
+    names: &[UnreadEntry],
+) -> Result<Vec<UnreadEntry>, AllocError>
+    ensures { IfOk result (λ entries. map unread_of entries.items
+        ≡ map (λ named. in_folder folder.now (unread_of named)) names.now) }
 {
-    let mut paths = Vec::new(alloc);
-    for name in names {
-        paths.push(path_in(alloc, folder, name.as_str())?)?;
+    let mut entries = Vec::new(alloc);
+    for named in names {
+        entries.push(entry_in(alloc, folder, named)?)?;
     }
-    Ok(paths)
+    Ok(entries)
 }
 
 /// What is found by listing a folder.
@@ -125,7 +131,7 @@ fn found_by(alloc: Global, folder: &str, listing: &FolderListing) -> Result<Foun
     ensures { IfOk result (λ found. Holds folder.now (Some (listing_of listing.now)) (had_of found)) }
 {
     let found = found_in(alloc, folder, &listing.entries)?;
-    let unread = paths_in(alloc, folder, &listing.unnamed)?;
+    let unread = entries_in(alloc, folder, &listing.unnamed)?;
     Ok(Found {
         folders: found.0,
         paths: found.1,
@@ -134,13 +140,13 @@ fn found_by(alloc: Global, folder: &str, listing: &FolderListing) -> Result<Foun
     })
 }
 
-/// A path alone.
-fn one_path(alloc: Global, path: &str) -> Result<Vec<String>, AllocError>
-    ensures { IfOk result (λ paths. map string_bytes paths.items ≡ path.now ∷ []) }
+/// What has a path alone.
+fn one_entry(alloc: Global, path: &str) -> Result<Vec<UnreadEntry>, AllocError>
+    ensures { IfOk result (λ entries. map unread_of entries.items ≡ at_path path.now ∷ []) }
 {
-    let mut paths = Vec::new(alloc);
-    paths.push(String::from_str(alloc, path)?)?;
-    Ok(paths)
+    let mut entries = Vec::new(alloc);
+    entries.push(entry_at(alloc, path)?)?;
+    Ok(entries)
 }
 
 /// What is found of a folder that can't be listed.
@@ -149,7 +155,7 @@ fn found_unlisted(alloc: Global, folder: &str) -> Result<Found, AllocError>
 {
     let folders = Vec::new(alloc);
     let paths = Vec::new(alloc);
-    let unread = one_path(alloc, folder)?;
+    let unread = one_entry(alloc, folder)?;
     Ok(Found {
         folders,
         paths,

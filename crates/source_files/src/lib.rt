@@ -10,6 +10,7 @@ mod load;
 mod load_fault;
 mod root;
 mod root_files;
+mod taken;
 
 // Which sources a list names.
 mod source_list;
@@ -21,6 +22,7 @@ mod folders;
 mod found;
 mod listing;
 mod system_folders;
+mod unread_entry;
 mod walk;
 
 // Where the well-known files are, and these alone.
@@ -88,5 +90,6 @@ pub use root_files::RootFiles;
 pub use source_list::{ListFault, ListedPath, MAX_LIST_LENGTH, listed_paths};
 pub use system_files::SystemFiles;
 pub use system_stream::SystemStream;
+pub use unread_entry::UnreadEntry;
 pub use well_known::well_known_folder;
 pub use with_well_known::WithWellKnown;

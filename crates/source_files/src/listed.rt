@@ -1,12 +1,13 @@
-//! The tree of the sources that a list names, and of the files that they see.
+//! The tree of the sources that a list names, and of the files that they reach.
 
 ghost use Rattle.std.specs.Prelude.{◌≡◌, ◌≢◌, ◌==◌, false, ◌++◌, ◌∷◌, [], ℕ, List, IfErr, IfOk, MatchResult, OnOk, length, map};
 ghost use Rattle.std.specs.Prelude.{string_bytes, take};
 ghost use Rattle.source_tree.specs.Trees.{IsTreeOf};
 ghost use Rattle.source_files.specs.LoadFaults.{MayRefuseFiles};
-ghost use Rattle.source_files.specs.Walks.{AreOnce};
+ghost use Rattle.source_files.specs.Unread.{at_path, unread_of};
+ghost use Rattle.source_files.specs.Walks.{AreEachOnce, AreOnce};
 ghost use Rattle.source_files.specs.Closures.{MayRefuseUnread};
-ghost use Rattle.source_files.specs.Seen.{AreIncluded, AreSources, MayNotInclude};
+ghost use Rattle.source_files.specs.Reached.{AreIncluded, AreSources, MayNotInclude};
 ghost use Rattle.source_files.specs.ListedTrees.{
   AreInTree,
   IsTreeListed,
@@ -17,13 +18,14 @@ ghost use Rattle.source_files.specs.ListedTrees.{
   paths_behind,
 };
 
-use crate::closure::{Gathered, gather, push_copy, see_each, set_of};
+use crate::closure::{Gathered, gather, push_copy, reach_each, set_of};
 use crate::find_imports::FindImports;
 use crate::load::{LoadedTree, make_tree, once};
 use crate::load_fault::LoadFault;
 use crate::looking::{FoundFile, Looking, look_each};
 use crate::read_files::ReadFiles;
 use crate::readers::Readers;
+use crate::unread_entry::{UnreadEntry, each_once, entry_at};
 use index_pool::Gate;
 use source_tree::{Source, Tree};
 use std::alloc::{AllocError, Global};
@@ -121,18 +123,38 @@ fn files_of(alloc: Global, all: Vec<FoundFile>) -> Result<Vec<Source>, AllocErro
     Ok(files)
 }
 
-/// The paths that are left out, each once.
-fn all_unread(lost: Vec<String>, left: Vec<String>) -> Result<Vec<String>, AllocError>
-    ensures { IfOk result (λ unread. AreOnce (map string_bytes lost.items ++ map string_bytes left.items)
-        (map string_bytes unread.items)) }
+/// Adds what has these paths and can't be read.
+fn add_entries(
+    alloc: Global,
+    entries: &mut Vec<UnreadEntry>,
+    paths: &[String],
+) -> Result<(), AllocError>
+    ensures { OnOk result (map unread_of entries.new.items
+        ≡ map unread_of entries.old.items ++ map at_path (map string_bytes paths.now)) }
 {
-    let mut lost = lost;
-    let mut left = left;
-    lost.append(&mut left)?;
-    once(lost)
+    for path in paths {
+        entries.push(entry_at(alloc, path.as_str())?)?;
+    }
+    Ok(())
 }
 
-/// The paths of the files below the first root, of sources and then of files that they see.
+/// What has these paths is left out: each once.
+fn all_unread(
+    alloc: Global,
+    lost: &[String],
+    left: &[String],
+) -> Result<Vec<UnreadEntry>, AllocError>
+    ensures { IfOk result (λ unread. AreEachOnce (map at_path (map string_bytes lost.now
+        ++ map string_bytes left.now))
+        (map unread_of unread.items)) }
+{
+    let mut entries = Vec::new(alloc);
+    add_entries(alloc, &mut entries, lost)?;
+    add_entries(alloc, &mut entries, left)?;
+    each_once(entries)
+}
+
+/// The paths of the files below the first root, of sources and then of files that they reach.
 fn own_paths(
     alloc: Global,
     sources: &[FoundFile],
@@ -159,7 +181,7 @@ fn make_of(
     make_tree(alloc, sources, included)
 }
 
-/// The tree of sources, and of the files that they see below so many roots.
+/// The tree of sources, and of the files that they reach below so many roots.
 fn tree_of(
     alloc: Global,
     roots: usize,
@@ -169,7 +191,7 @@ fn tree_of(
     ensures { MatchResult result
         (λ loaded. AreInTree roots sources.found included.found sources.unread included.unread loaded.tree
         (map string_bytes loaded.own.items) (map (λ paths. map string_bytes paths.items) loaded.others.items)
-        (map string_bytes loaded.unread.items))
+        (map unread_of loaded.unread.items))
         (MayRefuseFiles (files_of sources.found) (files_of included.found)) }
 {
     let Gathered { found, unread } = sources;
@@ -179,7 +201,7 @@ fn tree_of(
     } = included;
     let own = own_paths(alloc, &found, &seen)?;
     let others = paths_behind(alloc, roots, &seen)?;
-    let unread = all_unread(unread, left)?;
+    let unread = all_unread(alloc, &unread, &left)?;
     let tree = make_of(alloc, found, seen)?;
     Ok(LoadedTree {
         tree,
@@ -252,20 +274,21 @@ fn unless_unread(leaves_out: bool, all: Gathered) -> Result<Gathered, LoadFault>
     Err(fault_of_unread(unread))
 }
 
-/// The files that these sources see below roots, whose paths are those that are listed.
+/// The files that these sources reach below roots, whose paths are those that are listed.
 fn included_of<R: Threads + Wait, G: Gate, F: ReadFiles + Sync, I: FindImports + Sync>(
     readers: &Readers<'_, R, G, F>,
     finder: &I,
+    links_options: bool,
     roots: &[String],
     listed: &[String],
     sources: &[FoundFile],
 ) -> Result<Gathered, LoadFault>
     ensures { MatchResult result
         (λ all. AreIncluded (F.finds readers.now.files.now) (F.gives readers.now.files.now) (I.tells finder.now)
-        readers.now.leaves_out (map string_bytes roots.now) (map string_bytes listed.now)
+        readers.now.leaves_out links_options (map string_bytes roots.now) (map string_bytes listed.now)
         sources.now all.found all.unread)
         (MayNotInclude (F.finds readers.now.files.now) (F.gives readers.now.files.now) (I.tells finder.now)
-        readers.now.leaves_out (map string_bytes roots.now) (map string_bytes listed.now)
+        readers.now.leaves_out links_options (map string_bytes roots.now) (map string_bytes listed.now)
         sources.now) }
 {
     let known = set_of(readers.alloc, listed)?;
@@ -277,56 +300,59 @@ fn included_of<R: Threads + Wait, G: Gate, F: ReadFiles + Sync, I: FindImports +
         is_wanted: false,
         roots,
     };
-    let all = see_each(readers, &looking, known, sources)?;
+    let all = reach_each(readers, &looking, links_options, known, sources)?;
     unless_unread(readers.leaves_out, all)
 }
 
-/// The tree of the sources with these paths, each of which comes once, and of the files that they see.
+/// The tree of the sources with these paths, each of which comes once, and of the files that they reach.
 fn load_once<R: Threads + Wait, G: Gate, F: ReadFiles + Sync, I: FindImports + Sync>(
     readers: &Readers<'_, R, G, F>,
     finder: &I,
+    links_options: bool,
     roots: &[String],
     once: &[String],
 ) -> Result<LoadedTree, LoadFault>
     ensures tree { IfOk result (λ loaded. (listed : List (List ℕ)) → AreOnce listed (map string_bytes once.now)
         → IsTreeListed (F.finds readers.now.files.now) (F.gives readers.now.files.now) (I.tells finder.now)
-        readers.now.leaves_out (map string_bytes roots.now)
+        readers.now.leaves_out links_options (map string_bytes roots.now)
         listed loaded.tree (map string_bytes loaded.own.items)
-        (map (λ paths. map string_bytes paths.items) loaded.others.items) (map string_bytes loaded.unread.items)) }
+        (map (λ paths. map string_bytes paths.items) loaded.others.items) (map unread_of loaded.unread.items)) }
     ensures refused { IfErr result (λ fault. (listed : List (List ℕ)) → AreOnce listed (map string_bytes once.now)
         → MayNotLoadListed (F.finds readers.now.files.now) (F.gives readers.now.files.now) (I.tells finder.now)
-        readers.now.leaves_out (map string_bytes roots.now)
+        readers.now.leaves_out links_options (map string_bytes roots.now)
         listed fault) }
 {
     let sources = sources_of(readers, finder, first_alone(roots), once)?;
-    let included = included_of(readers, finder, roots, once, &sources.found)?;
+    let included = included_of(readers, finder, links_options, roots, once, &sources.found)?;
     let tree = tree_of(readers.alloc, roots.len(), sources, included)?;
     Ok(tree)
 }
 
-/// The tree of the sources with these paths below the first of some roots, and of the files that they see: these are
-/// looked for below each root, in order. No folder is listed.
+/// The tree of the sources with these paths below the first of some roots, and of the files that they reach: these are
+/// looked for below each root, in order. No folder is listed. If names in options aren't linked, they reach what they see;
+/// if they are, also what included files import privately, and `google/protobuf/descriptor.proto`.
 ///
-/// `Unreadable`: a source or a file that a source sees can't be read, or a source isn't there: the first source by
+/// `Unreadable`: a source or a file that a source reaches can't be read, or a source isn't there: the first source by
 /// path, or else such a file. It doesn't come where what can't be read is left out. Then `TooMany` and `BadPath`, as
 /// `load_tree` says.
 pub fn load_listed<R: Threads + Wait, G: Gate, F: ReadFiles + Sync, I: FindImports + Sync>(
     readers: &Readers<'_, R, G, F>,
     finder: &I,
+    links_options: bool,
     roots: &[String],
     listed: Vec<String>,
 ) -> Result<LoadedTree, LoadFault>
     ensures tree { IfOk result (λ loaded. IsTreeListed (F.finds readers.now.files.now)
         (F.gives readers.now.files.now) (I.tells finder.now)
-        readers.now.leaves_out (map string_bytes roots.now)
+        readers.now.leaves_out links_options (map string_bytes roots.now)
         (map string_bytes listed.items) loaded.tree (map string_bytes loaded.own.items)
-        (map (λ paths. map string_bytes paths.items) loaded.others.items) (map string_bytes loaded.unread.items)) }
+        (map (λ paths. map string_bytes paths.items) loaded.others.items) (map unread_of loaded.unread.items)) }
     ensures refused { IfErr result (MayNotLoadListed (F.finds readers.now.files.now) (F.gives readers.now.files.now)
         (I.tells finder.now)
-        readers.now.leaves_out (map string_bytes roots.now)
+        readers.now.leaves_out links_options (map string_bytes roots.now)
         (map string_bytes listed.items)) }
 {
     let once = once(listed)?;
-    let tree = load_once(readers, finder, roots, &once)?;
+    let tree = load_once(readers, finder, links_options, roots, &once)?;
     Ok(tree)
 }

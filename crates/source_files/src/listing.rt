@@ -1,9 +1,10 @@
 //! What listing a folder gives.
 
 use crate::entry::FolderEntry;
+use crate::unread_entry::UnreadEntry;
 
 /// Which folder it is: paths to one folder have the same, and paths to two have two.
-#[derive(Clone, Copy, Debug, PartialEq, Eq)]
+#[derive(Clone, Copy, Debug, PartialEq, Eq, PartialOrd, Ord)]
 pub struct FolderIdentity {
     /// The device that it is on.
     pub device: u64,
@@ -18,6 +19,6 @@ pub struct FolderListing {
     pub entries: Vec<FolderEntry>,
     /// Which folder it is; `None` if nobody has asked. A folder with one that was met before is passed over.
     pub identity: Option<FolderIdentity>,
-    /// The names that aren't UTF-8, with each byte that isn't in the form `\xe9`.
-    pub unnamed: Vec<String>,
+    /// Its entries whose names aren't UTF-8.
+    pub unnamed: Vec<UnreadEntry>,
 }

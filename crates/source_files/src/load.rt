@@ -20,10 +20,11 @@ ghost use Rattle.std.specs.Prelude.{
 ghost use Rattle.std.specs.List.{AllZip};
 ghost use Rattle.std.specs.Option.{option_map};
 ghost use Rattle.source_tree.specs.Trees.{IsTreeOf};
-ghost use Rattle.source_files.specs.Roots.{AreFilesBelow, files_of, unread_of};
+ghost use Rattle.source_files.specs.Roots.{AreFilesBelow, all_unread, files_of};
+ghost use Rattle.source_files.specs.Unread.{unread_of};
 ghost use Rattle.source_files.specs.Walks.{AreOnce};
 ghost use Rattle.source_files.specs.Loads.{AreLoaded, IsLoadedBelow, IsTreeBelow, MayNotLoad};
-ghost use Rattle.source_files.specs.LoadFaults.{MayRefuseFiles, MayStopBelow};
+ghost use Rattle.source_files.specs.LoadFaults.{MayRefuseFiles, MayRefuseTaken, MayStopBelow};
 
 use crate::folders::{paths_of, paths_of_each};
 use crate::load_fault::LoadFault;
@@ -31,6 +32,8 @@ use crate::read_files::ReadFiles;
 use crate::readers::Readers;
 use crate::root::read_root;
 use crate::root_files::RootFiles;
+use crate::taken::take_each;
+use crate::unread_entry::{UnreadEntry, each_once};
 use index_pool::Gate;
 use source_tree::{Source, Tree, TreeFault, one_sorting_by_path};
 use std::alloc::{AllocError, Global};
@@ -117,19 +120,19 @@ pub(crate) fn make_tree(
 pub struct Loaded {
     /// The tree.
     pub tree: Tree,
-    /// The paths of what can't be read, each below its root, by their bytes, and each once.
-    pub unread: Vec<String>,
+    /// What isn't read, by its path below its root, each once, in order of what is shown of it.
+    pub unread: Vec<UnreadEntry>,
 }
 
-/// Adds what was read below roots: the files, and the paths of what is left out.
+/// Adds what was read below roots: the files, and what is left out.
 fn add_each(
     files: &mut Vec<Source>,
-    unread: &mut Vec<String>,
+    unread: &mut Vec<UnreadEntry>,
     each: Vec<RootFiles>,
 ) -> Result<(), AllocError>
     ensures files { OnOk result (files.new.items ≡ files.old.items ++ files_of each.items) }
-    ensures unread { OnOk result (map string_bytes unread.new.items
-        ≡ map string_bytes unread.old.items ++ unread_of each.items) }
+    ensures unread { OnOk result (map unread_of unread.new.items
+        ≡ map unread_of unread.old.items ++ all_unread each.items) }
 {
     for below in each {
         let mut below = below;
@@ -149,18 +152,25 @@ pub fn once(paths: Vec<String>) -> Result<Vec<String>, AllocError>
     Ok(paths)
 }
 
-/// The tree of what was read below a root and below included roots.
-fn make_loaded(alloc: Global, own: RootFiles, others: Vec<RootFiles>) -> Result<Loaded, LoadFault>
+/// The tree of what was read below a root and below included roots, but bad paths, if what can't be read is left out.
+fn make_loaded(
+    alloc: Global,
+    leaves_out: bool,
+    own: RootFiles,
+    others: Vec<RootFiles>,
+) -> Result<Loaded, LoadFault>
     ensures { MatchResult result
-        (λ loaded. AreLoaded loaded.tree (map string_bytes loaded.unread.items) own others.items)
-        (MayRefuseFiles own.files (files_of others.items)) }
+        (λ loaded. AreLoaded leaves_out loaded.tree (map unread_of loaded.unread.items) own others.items)
+        (MayRefuseTaken leaves_out own others.items) }
 {
     let RootFiles { files, unread } = own;
     let mut unread = unread;
     let mut included = Vec::new(alloc);
     add_each(&mut included, &mut unread, others)?;
-    let unread = once(unread)?;
-    let tree = make_tree(alloc, files, included)?;
+    let sources = take_each(alloc, leaves_out, files, &mut unread)?;
+    let included = take_each(alloc, leaves_out, included, &mut unread)?;
+    let unread = each_once(unread)?;
+    let tree = make_tree(alloc, sources, included)?;
     Ok(Loaded { tree, unread })
 }
 
@@ -178,13 +188,13 @@ pub fn load_tree<R: Threads + Wait, G: Gate, F: ReadFiles + Sync>(
 ) -> Result<Loaded, LoadFault>
     ensures tree { IfOk result (λ loaded. IsTreeBelow (F.lists readers.now.files.now) (F.gives readers.now.files.now)
         readers.now.leaves_out root.now (map string_bytes included.now) loaded.tree
-        (map string_bytes loaded.unread.items)) }
+        (map unread_of loaded.unread.items)) }
     ensures refused { IfErr result (MayNotLoad (F.lists readers.now.files.now) (F.gives readers.now.files.now)
         readers.now.leaves_out root.now (map string_bytes included.now)) }
 {
     let own = read_root(readers, root)?;
     let others = read_roots(readers, included)?;
-    make_loaded(readers.alloc, own, others)
+    make_loaded(readers.alloc, readers.leaves_out, own, others)
 }
 
 /// A tree, and the paths of the files below each of the folders that it was read from.
@@ -196,8 +206,8 @@ pub struct LoadedTree {
     pub own: Vec<String>,
     /// For each included root the paths of the files that were read below it.
     pub others: Vec<Vec<String>>,
-    /// The paths of what can't be read, each below its root, by their bytes, and each once.
-    pub unread: Vec<String>,
+    /// What isn't read, by its path below its root, each once, in order of what is shown of it.
+    pub unread: Vec<UnreadEntry>,
 }
 
 /// The tree that `load_tree` makes, or why it makes none, with the paths of the files of each folder.
@@ -209,7 +219,7 @@ pub fn load_tree_with_paths<R: Threads + Wait, G: Gate, F: ReadFiles + Sync>(
     ensures loaded { IfOk result (λ loaded. IsLoadedBelow (F.lists readers.now.files.now)
         (F.gives readers.now.files.now) readers.now.leaves_out root.now (map string_bytes included.now) loaded.tree
         (map string_bytes loaded.own.items) (map (λ paths. map string_bytes paths.items) loaded.others.items)
-        (map string_bytes loaded.unread.items)) }
+        (map unread_of loaded.unread.items)) }
     ensures refused { IfErr result (MayNotLoad (F.lists readers.now.files.now) (F.gives readers.now.files.now)
         readers.now.leaves_out root.now (map string_bytes included.now)) }
 {
@@ -217,7 +227,7 @@ pub fn load_tree_with_paths<R: Threads + Wait, G: Gate, F: ReadFiles + Sync>(
     let own = paths_of(readers.alloc, &here.files)?;
     let each = read_roots(readers, included)?;
     let others = paths_of_each(readers.alloc, &each)?;
-    let Loaded { tree, unread } = make_loaded(readers.alloc, here, each)?;
+    let Loaded { tree, unread } = make_loaded(readers.alloc, readers.leaves_out, here, each)?;
     Ok(LoadedTree {
         tree,
         own,

@@ -2,7 +2,7 @@
 
 ghost use Rattle.std.specs.Prelude.{◌≤◌, IfOk, MatchResult, length, map, string_bytes};
 ghost use Rattle.index_pool.specs.declared.workers.TheConstants.{MAX_INPUTS};
-ghost use Rattle.source_files.specs.Seen.{IsFirstBelow};
+ghost use Rattle.source_files.specs.Reached.{IsFirstBelow};
 ghost use Rattle.source_files.specs.Looks.{AreLooked, GivesLooked, IsFirstIfAny, MayStopLooking, UnreadGives};
 
 use crate::find_imports::{FindImports, FoundImport};
@@ -32,7 +32,7 @@ pub(crate) struct FoundFile {
 }
 
 impl Model for FoundFile {
-    ghost use Rattle.source_files.specs.Seen.{Told};
+    ghost use Rattle.source_files.specs.Reached.{Told};
 
     ghost Value = { Told };
 

@@ -12,6 +12,7 @@ use crate::phases::run_anyway;
 use crate::read_files::ReadFiles;
 use crate::readers::Readers;
 use crate::root_files::RootFiles;
+use crate::unread_entry::entry_at;
 use index_pool::{Gate, Job, MAX_INPUTS, PoolFault, Ticket};
 use source_tree::Source;
 use std::alloc::{AllocError, Global};
@@ -140,7 +141,9 @@ fn add_one(below: &mut RootFiles, read: ReadSource) -> Result<(), AllocError>
 {
     match read {
         ReadSource::Held(source) => below.files.push(source)?,
-        ReadSource::LeftOut(path) => below.unread.push(path)?,
+        ReadSource::LeftOut(path) => below
+            .unread
+            .push(entry_at(*path.allocator(), path.as_str())?)?,
     }
     Ok(())
 }

@@ -3,12 +3,14 @@
 ghost use Rattle.std.specs.Prelude.{◌≡◌, ◌++◌, IfOk, IfErr, map, string_bytes};
 ghost use Rattle.source_files.specs.Roots.{AreFilesBelow};
 ghost use Rattle.source_files.specs.RootFaults.{MayStop};
+ghost use Rattle.source_files.specs.Unread.{unread_of};
 
 use crate::load_fault::LoadFault;
 use crate::read_files::ReadFiles;
 use crate::readers::Readers;
 use crate::reading::read_each;
 use crate::root_files::RootFiles;
+use crate::unread_entry::UnreadEntry;
 use crate::walk::list_sources;
 use index_pool::Gate;
 use std::alloc::AllocError;
@@ -16,9 +18,9 @@ use std::sync::Wait;
 use std::thread::Threads;
 
 /// What is read below a root, with what isn't listed there before what isn't read.
-fn with_unlisted(unlisted: Vec<String>, read: RootFiles) -> Result<RootFiles, AllocError>
+fn with_unlisted(unlisted: Vec<UnreadEntry>, read: RootFiles) -> Result<RootFiles, AllocError>
     ensures files { IfOk result (λ below. below.files ≡ read.files) }
-    ensures unread { IfOk result (λ below. below.unread ≡ map string_bytes unlisted.items ++ read.unread) }
+    ensures unread { IfOk result (λ below. below.unread ≡ map unread_of unlisted.items ++ read.unread) }
 {
     let RootFiles { files, unread } = read;
     let mut all = unlisted;

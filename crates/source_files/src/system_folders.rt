@@ -5,6 +5,7 @@ use crate::found::path_in;
 use crate::listing::{FolderIdentity, FolderListing};
 use crate::reading::path_below;
 use crate::second_look::push_name;
+use crate::unread_entry::UnreadEntry;
 use std::alloc::{AllocError, Global};
 use std::fs::{FileType, Metadata};
 use std::io::{Error, ErrorKind, Read};
@@ -131,11 +132,24 @@ impl Listing {
         match str::from_utf8(name) {
             Ok("" | "." | "..") => Ok(()),
             Ok(name) => self.add_entry(system, name),
-            Err(_) => {
-                self.listed.unnamed.push(shown_name(system.alloc(), name)?)?;
-                Ok(())
-            }
+            Err(_) => self.add_unnamed(system, name),
         }
+    }
+
+    /// Adds an entry whose name isn't UTF-8. Which folder it is in is asked where it isn't known yet.
+    fn add_unnamed<S: Files + AllocGlobal>(&mut self, system: &S, name: &[u8]) -> io::Result<()> {
+        let alloc = system.alloc();
+        let folder = match self.listed.identity {
+            Some(identity) => Some(identity),
+            None => identity_of(system, self.front.as_str()).ok(),
+        };
+        self.listed.unnamed.push(UnreadEntry {
+            shown: shown_name(alloc, name)?,
+            bytes: Vec::from_slice(alloc, name)?,
+            folder,
+            has_bad_path: false,
+        })?;
+        Ok(())
     }
 
     /// Adds an entry, whatever it is by its kind.

@@ -3,6 +3,7 @@
 ghost use Rattle.std.specs.Prelude.{◌≡◌, ◌↔◌, ◌≤◌, [], ◌∷◌, Contains, IfOk, IsTrue, MatchResult, OnOk, Some, length};
 ghost use Rattle.std.specs.Prelude.{map, string_bytes};
 ghost use Rattle.index_pool.specs.declared.workers.TheConstants.{MAX_INPUTS};
+ghost use Rattle.source_files.specs.Unread.{at_path, unread_of};
 ghost use Rattle.source_files.specs.Walks.{AreByBytes, AreWalked};
 ghost use Rattle.source_files.specs.WalkSteps.{
   AreListedBut,
@@ -23,6 +24,7 @@ use crate::phases::run_anyway;
 use crate::read_files::ReadFiles;
 use crate::readers::Readers;
 use crate::reading::part_of;
+use crate::unread_entry::UnreadEntry;
 use index_pool::{Gate, Job, MAX_INPUTS, PoolFault, Ticket, Workers};
 use std::alloc::{AllocError, Global};
 use std::sync::Wait;
@@ -41,7 +43,7 @@ pub(crate) struct Walk {
     /// The sources found.
     pub(crate) paths: Vec<String>,
     /// What can't be read.
-    pub(crate) unread: Vec<String>,
+    pub(crate) unread: Vec<UnreadEntry>,
 }
 
 /// What each of these folders below a root has.
@@ -210,7 +212,7 @@ fn go_on<R: Threads + Wait, G: Gate, F: ReadFiles + Sync>(
 /// The root is left to be listed.
 fn begin(alloc: Global) -> Result<Walk, AllocError>
     ensures { IfOk result (λ walk. (map string_bytes walk.folders.items ≡ [] ∷ []) × (walk.met.items ≡ [])
-        × (map string_bytes walk.paths.items ≡ []) × (map string_bytes walk.unread.items ≡ [])) }
+        × (map string_bytes walk.paths.items ≡ []) × (map unread_of walk.unread.items ≡ [])) }
 {
     let mut folders = Vec::new(alloc);
     folders.push(String::new(alloc))?;
@@ -226,9 +228,9 @@ fn begin(alloc: Global) -> Result<Walk, AllocError>
 fn walk_root<R: Threads + Wait, G: Gate, F: ReadFiles + Sync>(
     readers: &Readers<'_, R, G, F>,
     root: &str,
-) -> Result<(Vec<String>, Vec<String>), AllocError>
+) -> Result<(Vec<String>, Vec<UnreadEntry>), AllocError>
     ensures { IfOk result (λ walked. AreWalked (F.lists readers.now.files.now root.now)
-        (map string_bytes walked.0.items) (map string_bytes walked.1.items)) }
+        (map string_bytes walked.0.items) (map unread_of walked.1.items)) }
 {
     let mut walk = begin(readers.alloc)?;
     // A bound for the proof: each time a level is listed, and there aren't so many.
@@ -242,12 +244,22 @@ fn walk_root<R: Threads + Wait, G: Gate, F: ReadFiles + Sync>(
     Err(AllocError)
 }
 
-/// Whether the root itself is among what can't be read: its path is empty.
-fn has_root(unread: &[String]) -> bool
-    ensures { IsTrue result ↔ Contains (map string_bytes unread.now) [] }
+/// Whether what can't be read is the root itself: its path is empty.
+fn is_root(entry: &UnreadEntry) -> bool
+    ensures { IsTrue result ↔ (unread_of entry.now ≡ at_path []) }
 {
-    for path in unread {
-        if path.is_empty() {
+    entry.shown.is_empty()
+        && entry.bytes.is_empty()
+        && entry.folder.is_none()
+        && !entry.has_bad_path
+}
+
+/// Whether the root itself is among what can't be read.
+fn has_root(unread: &[UnreadEntry]) -> bool
+    ensures { IsTrue result ↔ Contains (map unread_of unread.now) (at_path []) }
+{
+    for entry in unread {
+        if is_root(entry) {
             return true;
         }
     }
@@ -255,8 +267,8 @@ fn has_root(unread: &[String]) -> bool
 }
 
 /// Whether this, which can't be read, stops a walk.
-fn is_stopped(leaves_out: bool, unread: &[String]) -> bool
-    ensures { IsTrue result ↔ Stops leaves_out (map string_bytes unread.now) }
+fn is_stopped(leaves_out: bool, unread: &[UnreadEntry]) -> bool
+    ensures { IsTrue result ↔ Stops leaves_out (map unread_of unread.now) }
 {
     if leaves_out {
         has_root(unread)
@@ -273,10 +285,10 @@ fn is_stopped(leaves_out: bool, unread: &[String]) -> bool
 pub(crate) fn list_sources<R: Threads + Wait, G: Gate, F: ReadFiles + Sync>(
     readers: &Readers<'_, R, G, F>,
     root: &str,
-) -> Result<(Vec<String>, Vec<String>), LoadFault>
+) -> Result<(Vec<String>, Vec<UnreadEntry>), LoadFault>
     ensures { MatchResult result
         (λ listed. AreListedBut (F.lists readers.now.files.now root.now) readers.now.leaves_out
-        (map string_bytes listed.0.items) (map string_bytes listed.1.items))
+        (map string_bytes listed.0.items) (map unread_of listed.1.items))
         (MayNotList (StopsWalk (F.lists readers.now.files.now root.now) readers.now.leaves_out) root.now) }
 {
     let (paths, unread) = walk_root(readers, root)?;

@@ -3,8 +3,8 @@
 use crate::roots::{fault_text, listing, remove_again, see};
 use index_pool::{NoGate, Workers};
 use source_files::{
-    FolderEntry, FolderListing, LoadFault, LoadedTree, ReadFiles, Readers, SystemFiles, load_tree,
-    load_tree_with_paths, read_root,
+    FolderEntry, FolderIdentity, FolderListing, LoadFault, LoadedTree, ReadFiles, Readers,
+    SystemFiles, UnreadEntry, load_tree, load_tree_with_paths, read_root,
 };
 use source_tree::{Source, Tree};
 use std::alloc::{AllocError, Global};
@@ -22,7 +22,7 @@ struct Said<'a, F> {
 }
 
 /// Files that are said to be there: the root, the folder and the name of each.
-const FILES: [(&str, &str, &str); 7] = [
+const FILES: [(&str, &str, &str); 10] = [
     ("names", "", "a.proto"),
     ("locks", "", "a.proto"),
     ("gone", "", "gone.proto"),
@@ -30,6 +30,9 @@ const FILES: [(&str, &str, &str); 7] = [
     ("all", "", "gone.proto"),
     ("all", "", "a.proto"),
     ("all", "deep/", "b.proto"),
+    ("alike", "", "a.proto"),
+    ("bad", "", "a.proto"),
+    ("bad", "", "a\tb.proto"),
 ];
 
 /// Folders that are said to be there. `locked` can't be listed.
@@ -39,11 +42,15 @@ const FOLDERS: [(&str, &str, &str); 3] = [
     ("all", "", "deep"),
 ];
 
-/// Names there that aren't UTF-8.
-const NAMES: [(&str, &str, &str); 3] = [
-    ("names", "", "\\xe9.proto"),
-    ("all", "", "\\xe9.proto"),
-    ("all", "deep/", "\\xff"),
+/// Names there that aren't UTF-8, as they are shown, and the number of the folder that they are said to be in.
+const NAMES: [(&str, &str, &str, &[u8], u64); 7] = [
+    ("names", "", "\\xe9.proto", b"\xe9.proto", 1),
+    ("all", "", "\\xe9.proto", b"\xe9.proto", 1),
+    ("all", "deep/", "\\xff", b"\xff", 2),
+    ("alike", "", "\\xe9\\xff", b"\xe9\\xff", 3),
+    ("alike", "", "\\xe9\\xff", b"\\xe9\xff", 3),
+    ("other", "", "\\xe9\\xff", b"\xe9\\xff", 4),
+    ("other", "", "\\xe9\\xff", b"\\xe9\xff", 4),
 ];
 
 /// Adds entries that are said to be in a folder below a root.
@@ -63,17 +70,35 @@ fn add_entries(
     Ok(())
 }
 
+/// An entry whose name isn't UTF-8, as it is shown, its bytes, and the number of the folder that it is in.
+fn entry_of(
+    alloc: Global,
+    shown: &str,
+    bytes: &[u8],
+    number: u64,
+) -> Result<UnreadEntry, AllocError> {
+    let shown = String::from_str(alloc, shown)?;
+    let bytes = Vec::from_slice(alloc, bytes)?;
+    let folder = FolderIdentity { device: 0, number };
+    Ok(UnreadEntry {
+        shown,
+        bytes,
+        folder: Some(folder),
+        has_bad_path: false,
+    })
+}
+
 /// Adds the names that are said to be in a folder below a root and aren't UTF-8.
 fn add_names(
     alloc: Global,
     listing: &mut FolderListing,
-    said: &[(&str, &str, &str)],
+    said: &[(&str, &str, &str, &[u8], u64)],
     at: (&str, &str),
 ) -> Result<(), AllocError> {
-    for (root, folder, name) in said {
+    for (root, folder, shown, bytes, number) in said {
         if *root == at.0 && *folder == at.1 {
-            let name = String::from_str(alloc, *name)?;
-            listing.unnamed.push(name)?;
+            let entry = entry_of(alloc, *shown, *bytes, *number)?;
+            listing.unnamed.push(entry)?;
         }
     }
     Ok(())
@@ -145,6 +170,16 @@ fn add_paths(text: &mut String, paths: &[String]) -> Result<(), AllocError> {
     Ok(())
 }
 
+/// Adds what isn't read as it is shown, each with a space behind it, or with `! ` if its path is bad, behind a stroke.
+fn add_unread(text: &mut String, unread: &[UnreadEntry]) -> Result<(), AllocError> {
+    text.push_str("| ")?;
+    for entry in unread {
+        text.push_str(entry.shown.as_str())?;
+        text.push_str(if entry.has_bad_path { "! " } else { " " })?;
+    }
+    Ok(())
+}
+
 /// Adds the paths of the files of a tree.
 fn add_tree(text: &mut String, tree: &Tree) -> Result<(), AllocError> {
     for number in 0..tree.file_count() {
@@ -155,9 +190,13 @@ fn add_tree(text: &mut String, tree: &Tree) -> Result<(), AllocError> {
 }
 
 /// The paths of sources, and behind a stroke what is left out.
-fn text_of_files(alloc: Global, files: &[Source], unread: &[String]) -> Result<String, AllocError> {
+fn text_of_files(
+    alloc: Global,
+    files: &[Source],
+    unread: &[UnreadEntry],
+) -> Result<String, AllocError> {
     let mut text = listing(alloc, files)?;
-    add_paths(&mut text, unread)?;
+    add_unread(&mut text, unread)?;
     Ok(text)
 }
 
@@ -178,13 +217,13 @@ fn read_text<R: Threads + Wait, F: ReadFiles + Sync>(
 }
 
 /// Adds the files of a tree, and behind a stroke what is left out.
-fn add_whole(text: &mut String, tree: &Tree, unread: &[String]) -> Result<(), AllocError> {
+fn add_whole(text: &mut String, tree: &Tree, unread: &[UnreadEntry]) -> Result<(), AllocError> {
     add_tree(text, tree)?;
-    add_paths(text, unread)
+    add_unread(text, unread)
 }
 
 /// The files of a tree, and behind a stroke what is left out.
-fn text_of_tree(alloc: Global, tree: &Tree, unread: &[String]) -> Result<String, AllocError> {
+fn text_of_tree(alloc: Global, tree: &Tree, unread: &[UnreadEntry]) -> Result<String, AllocError> {
     let mut text = String::new(alloc);
     add_whole(&mut text, tree, unread)?;
     Ok(text)
@@ -259,7 +298,8 @@ const READ: [(&str, bool, &str); 10] = [
 /// A root and an included one, and the tree where what can't be read is left out.
 type Row = (&'static str, &'static str, &'static str);
 
-const TREES: [Row; 5] = [
+// The folders of `names` and `all` are said to be one, and those of `alike` and `other` two.
+const TREES: [Row; 8] = [
     (
         "all",
         "all",
@@ -271,6 +311,17 @@ const TREES: [Row; 5] = [
         "all",
         "a.proto deep/b.proto | \\xe9.proto deep/\\xff gone.proto locked/ ",
     ),
+    (
+        "names",
+        "all",
+        "a.proto deep/b.proto | \\xe9.proto deep/\\xff gone.proto locked/ ",
+    ),
+    (
+        "alike",
+        "other",
+        "a.proto | \\xe9\\xff \\xe9\\xff \\xe9\\xff \\xe9\\xff ",
+    ),
+    ("bad", "bad", "a.proto | a\\x09b.proto! "),
     ("names", "nowhere", "nowhere: Unreadable"),
     ("nowhere", "names", "nowhere: Unreadable"),
 ];
@@ -286,16 +337,19 @@ const EACH: [Row; 2] = [
 ];
 
 /// What can be read of all that is said to be there.
-const MADE: [&str; 5] = [
+const MADE: [&str; 8] = [
     "names/a.proto",
     "locks/a.proto",
     "gone/a.proto",
     "all/a.proto",
     "all/deep/b.proto",
+    "alike/a.proto",
+    "bad/a.proto",
+    "bad/a\tb.proto",
 ];
 
 /// The folders of that.
-const PLACES: [&str; 5] = ["names", "locks", "gone", "all", "all/deep"];
+const PLACES: [&str; 7] = ["names", "locks", "gone", "all", "all/deep", "alike", "bad"];
 
 /// Removes what is made.
 fn remove_all<S: Files + AllocGlobal>(system: &S) {

@@ -48,6 +48,7 @@ fn is_made(
         facts: Some(facts),
         included: false,
         left_out: false,
+        links_options: false,
     }];
     let linker = link(alloc, &files)?;
     let named = externals(alloc, &linker, choices, package)?;

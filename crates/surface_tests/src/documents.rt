@@ -165,6 +165,7 @@ fn is_linked_right(
         facts: Some(facts),
         included: false,
         left_out: false,
+        links_options: false,
     }];
     let linker = link(alloc, &files)?;
     is_listed(alloc, &linker, text, choices, package, listed)

@@ -72,6 +72,7 @@ fn add_file<'a, 't>(
         facts: Some(facts),
         included: false,
         left_out: false,
+        links_options: false,
     })?;
     Ok(())
 }

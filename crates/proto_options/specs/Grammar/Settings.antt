@@ -2,7 +2,7 @@
 -- that an option is there; these say what is named in it.
 use Rattle.std.specs.Prelude.{ℕ, Option, None, List, [], ◌∷◌, ◌++◌, length}
 use Rattle.proto_lex.specs.declared.span.Span.{Span}
-use Rattle.proto_lex.specs.declared.token.TokenKind.TheVariants.{Identifier, Equals, Dot, OpenBrace, CloseBrace}
+use Rattle.proto_lex.specs.declared.token.TokenKind.TheVariants.{Identifier, Equals, Dot, OpenBrace}
 use Rattle.proto_lex.specs.declared.token.TokenKind.TheVariants.{OpenParenthesis, CloseParenthesis}
 use Rattle.proto_parse.specs.tree.TypeName.{TypeName}
 use Rattle.proto_grammar.specs.Lexeme.{Lexeme}
@@ -13,7 +13,7 @@ use Rattle.proto_grammar.specs.Grammar.Options.{IsStrings, IsClosed}
 use Rattle.proto_options.specs.declared.names.OptionRole.TheVariants.{Field, Extension, Value}
 use Rattle.proto_options.specs.declared.names.Setting.{Setting}
 use Rattle.proto_options.specs.Names.{Names, named, plain, one_word, last_number}
-use Rattle.proto_options.specs.Grammar.Aggregates.{IsWithin, max_aggregate_depth}
+use Rattle.proto_options.specs.Grammar.Aggregates.{IsMessageWithin, max_aggregate_depth}
 
 -- A part of an option's name: IDENT | "(" typename ")".
 pub data NamesPart (around : Option ℕ) : Names → List Lexeme → Names → List Lexeme → Type 0 where
@@ -34,15 +34,9 @@ pub data NamesOption : List Lexeme → Names → List Lexeme → Type 0 where
   option_name : {names after : Names} {a b c : List Lexeme}
       → NamesPart None [] a names b → Until (not_next Dot) NamesDotPart names b after c → NamesOption a after c
 
--- Whether a message of the text format is behind a `{`, up to and with its `}`, as the value of the last of the names.
-abbrev pub HasMessage : Names → List Lexeme → Type 0
-HasMessage names b =
-    (after : Names) × ((c : List Lexeme)
-    × IsWithin max_aggregate_depth CloseBrace (last_number names) names b after c)
-
--- constant = name | [ "-" | "+" ] ( INT | FLOAT | "inf" | "nan" ) | strings | "{" message "}", where a message is one
--- of the text format. It is given to the part before, the last of the names. Braces with no message in them are read
--- past, as where no names are asked for: up to the `}` that closes them, and nothing in them is named.
+-- constant = name | [ "-" | "+" ] ( INT | FLOAT | "inf" | "nan" ) | strings | "{" message "}". It is given to the part
+-- before, the last of the names. Braces are balanced; in them is a message of the text format, and what is none of it
+-- is read past.
 pub data NamesValue : Names → List Lexeme → Names → List Lexeme → Type 0 where
   name : {names : Names} {a b : List Lexeme} {components : List Span} → IsName a components b
       → NamesValue names a (names ++ named Value (last_number names) (plain components) ∷ []) b
@@ -52,12 +46,9 @@ pub data NamesValue : Names → List Lexeme → Names → List Lexeme → Type 0
       → NamesValue names a names b
   strings : {names : Names} {a b : List Lexeme} → IsStrings a b → NamesValue names a names b
   aggregate : {names after : Names} {a b c : List Lexeme} {open_brace : Span}
-      → One (of_kind OpenBrace) a open_brace b
-      → IsWithin max_aggregate_depth CloseBrace (last_number names) names b after c
+      → One (of_kind OpenBrace) a open_brace b → IsClosed 1 b c
+      → IsMessageWithin max_aggregate_depth (last_number names) names a after c
       → NamesValue names a after c
-  read_past : {names : Names} {a b c : List Lexeme} {open_brace : Span}
-      → One (of_kind OpenBrace) a open_brace b → IsClosed 1 b c → ¬ (HasMessage names b)
-      → NamesValue names a names c
 
 -- name "=" constant, with all names that are in it: the parts of the option's name first.
 pub data NamesSetting : List Lexeme → Setting → List Lexeme → Type 0 where

@@ -1,19 +1,16 @@
 -- Options with the names in them: what a step reads.
-use Rattle.std.specs.Prelude.{ℕ, Bool, true, false, cond, Result, Ok, Err, Option, Some, None, [], ◌∷◌, ◌++◌, length}
+use Rattle.std.specs.Prelude.{ℕ, cond, Ok, Option, Some, None, [], ◌∷◌, ◌++◌, length}
 use Rattle.proto_lex.specs.declared.token.TokenKind.TheVariants.{Identifier, StringLiteral, Equals, Dot, OpenBrace}
-use Rattle.proto_lex.specs.declared.token.TokenKind.TheVariants.{CloseBrace, OpenParenthesis, CloseParenthesis}
+use Rattle.proto_lex.specs.declared.token.TokenKind.TheVariants.{OpenParenthesis, CloseParenthesis}
 use Rattle.proto_parse.specs.tree.TypeName.{TypeName}
-use Rattle.proto_grammar.specs.declared.fault.SyntaxFault.{SyntaxFault}
-use Rattle.proto_grammar.specs.declared.fault.SyntaxFault.TheVariants.{Memory}
 use Rattle.proto_grammar.specs.Terminal.{first_is, of_kind, is_sign, is_numeral, is_number, not_next}
 use Rattle.proto_grammar.specs.Reading.Repetition.{◌>>=◌, Read, token_that, until_at}
 use Rattle.proto_grammar.specs.Reading.Names.{name_at}
-use Rattle.proto_grammar.specs.Reading.Options.{closed_at}
 use Rattle.proto_options.specs.declared.names.OptionRole.TheVariants.{Field, Extension, Value}
 use Rattle.proto_options.specs.declared.names.Setting.{Setting}
 use Rattle.proto_options.specs.Names.{Names, named, plain, last_number}
 use Rattle.proto_options.specs.Grammar.Aggregates.{max_aggregate_depth}
-use Rattle.proto_options.specs.Reading.Aggregates.{Adding, nothing_added, word_at, strings_at, within_at}
+use Rattle.proto_options.specs.Reading.Aggregates.{Adding, nothing_added, word_at, strings_at, message_at}
 
 abbrev pub rooted_name_at : Read TypeName
 rooted_name_at tokens = do
@@ -59,9 +56,7 @@ signed_value_at tokens = do
   Ok (tt, number.1)
 
 unfoldable pub aggregate_at : Adding
-aggregate_at names tokens =
-    token_that (of_kind OpenBrace) tokens
-    >>= λ open_brace. within_at max_aggregate_depth CloseBrace (last_number names) names open_brace.1
+aggregate_at names tokens = message_at max_aggregate_depth (last_number names) names tokens
 
 unfoldable pub value_at : Adding
 value_at names tokens =
@@ -72,33 +67,9 @@ value_at names tokens =
     (token_that is_numeral tokens >>= λ number. Ok (names, number.1)))))
 
 -- with the names in its value
-unfoldable pub named_setting_at : Read Setting
-named_setting_at tokens = do
+unfoldable pub setting_at : Read Setting
+setting_at tokens = do
   parts ← option_name_at tokens
   equals ← token_that (of_kind Equals) parts.1
   names ← value_at parts.0 equals.1
   Ok (record { parts = length parts.0; names = names.0 }, names.1)
-
--- braces with any tokens, in which braces are balanced
-unfoldable pub braces_passed_at : Read (Unit {0})
-braces_passed_at tokens = token_that (of_kind OpenBrace) tokens >>= λ open_brace. closed_at 1 open_brace.1
-
--- with braces as its value, which are read past
-unfoldable pub passed_setting_at : Read Setting
-passed_setting_at tokens = do
-  parts ← option_name_at tokens
-  equals ← token_that (of_kind Equals) parts.1
-  braces ← braces_passed_at equals.1
-  Ok (record { parts = length parts.0; names = parts.0 }, braces.1)
-
-abbrev pub is_memory : SyntaxFault → Bool
-is_memory Memory = true
-is_memory fault = false
-
--- what is read, or where that meets a fault what else is
-abbrev pub otherwise : {A : Type 0} → Result A SyntaxFault → Result A SyntaxFault → Result A SyntaxFault
-otherwise (Ok x) other = Ok x
-otherwise (Err fault) other = other
-
-unfoldable pub setting_at : Read Setting
-setting_at tokens = otherwise (named_setting_at tokens) (passed_setting_at tokens)

@@ -1,5 +1,5 @@
 -- What a table of steps says, how it comes from the files, and the rows of the files that are seen by it.
-use Rattle.std.specs.Prelude.{ℕ, ◌≡◌, ◌<◌, ◌↔◌, ◌⊎◌, Bool, true, false, Option, Some, None, List, [], ◌∷◌, length, All}
+use Rattle.std.specs.Prelude.{ℕ, ◌≡◌, ◌<◌, ◌↔◌, ◌⊎◌, Bool, true, false, Option, Some, None, List, [], ◌∷◌, ◌++◌, length, All}
 use Rattle.std.specs.Prelude.{Contains, if◌then◌else◌, not, ◌||◌, ◌&&◌}
 use Rattle.std.specs.List.{slice_get, flat_map}
 use Rattle.std.specs.Option.{is_none}
@@ -44,6 +44,15 @@ IsBegun table file other = (other ≡ file) ⊎ HasStep table file false other
 -- public imports lead to it from one of these
 abbrev pub IsLedTo : (Imports : ℕ → Bool → ℕ → Type 0) → (starts : List ℕ) → ℕ → Type 0
 IsLedTo Imports starts last = (start : ℕ) × Contains starts start × LeadsTo Imports start last
+
+-- the one list begins with the other
+abbrev pub IsFront : (front all : List ℕ) → Type 0
+IsFront front all = (more : List ℕ) × (all ≡ front ++ more)
+
+-- what the first so many of these import publicly is among them
+abbrev pub AreFollowed : (Imports : ℕ → Bool → ℕ → Type 0) → (numbers : List ℕ) → (count : ℕ) → Type 0
+AreFollowed Imports numbers count = (index number other : ℕ) → index < count → slice_get numbers index ≡ Some number
+    → Imports number true other → Contains numbers other
 
 -- from one of the first so many files, of those that begin it, the search begins there
 abbrev pub IsBegunBy : (Begins : ℕ → Type 0) → (table : List Steps) → (count : ℕ) → ℕ → Type 0

@@ -11,7 +11,7 @@ use Rattle.index_hooks.specs.declared.choice.Choice.{Choice}
 use Rattle.scip_records.specs.declared.records.SymbolInformation.{SymbolInformation}
 use Rattle.scip_model.specs.Named.{Home, HasDeclaration}
 use Rattle.proto_visibility.specs.Files.{File, HasFacts, IsSource, IsIncludedAt}
-use Rattle.option_link.specs.Counted.{Counts}
+use Rattle.proto_visibility.specs.Reaches.{IsReachable}
 use Rattle.proto_visibility.specs.Sees.{Sees}
 use Rattle.proto_link.specs.Targets.{IsTarget}
 use Rattle.proto_visibility.specs.declared.lookup.Entity.{Entity}
@@ -61,9 +61,9 @@ module _ (files : List File) (chosen : Chosen) where
     pub within : source < count
     pub of_source : IsOfSource source x
 
-  -- a declaration that is kept, of a file that counts
+  -- a declaration that is kept, of a reachable file
   pub record IsKeptThere (x : Pair) : Type 0 where
-    pub counts : Counts files x.0
+    pub is_reachable : IsReachable files x.0
     pub facts : Facts
     pub declaration : Declaration
     pub has : HasDeclaration files x.0 x.1 facts declaration

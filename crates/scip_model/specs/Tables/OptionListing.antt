@@ -10,7 +10,6 @@ use Rattle.proto_options.specs.declared.options.FileOption.{FileOption}
 use Rattle.option_link.specs.declared.facts.OptionFacts.{OptionFacts}
 use Rattle.option_link.specs.declared.place.DeclaredPlace.{DeclaredPlace}
 use Rattle.option_link.specs.declared.target.OptionTarget.{OptionTarget}
-use Rattle.option_link.specs.Counted.{Counts}
 use Rattle.option_link.specs.OptionNames.{IsGap, IsOptionTarget}
 use Rattle.proto_visibility.specs.Files.{File, IsSource}
 use Rattle.proto_visibility.specs.declared.lookup.Entity.{Entity}
@@ -32,23 +31,13 @@ pub record IsLastPart (parts : List Entity) (at : DeclaredPlace) : Type 0 where
   pub last : index + 1 ≡ length parts
   pub is : slice_get parts index ≡ Some (link.Declared at.file at.index)
 
--- the same, in a file that counts
-pub record IsCountedPart (files : List File) (parts : List Entity) (at : DeclaredPlace) : Type 0 where
-  pub last : IsLastPart parts at
-  pub counts : Counts files at.file
+-- that, or that there is none
+abbrev pub IsLastPlace : (parts : List Entity) → Option DeclaredPlace → Type 0
+IsLastPlace parts found = MatchOption found ((at : DeclaredPlace) → IsLastPart parts at → ⊥) (IsLastPart parts)
 
-abbrev pub IsCountedPlace : List File → (parts : List Entity) → Option DeclaredPlace → Type 0
-IsCountedPlace files parts found =
-    MatchOption found ((at : DeclaredPlace) → IsCountedPart files parts at → ⊥) (IsCountedPart files parts)
-
--- one of the parts of a name, an external declaration, if what the name names is in a file that counts
-pub record IsOfName (files : List File) (chosen : Chosen) (parts : List Entity) (x : Pair) : Type 0 where
-  pub at : DeclaredPlace
-  pub counted : IsCountedPart files parts at
-  pub of_parts : FromFront (IsOfPart files chosen) parts (length parts) x
-
+-- one of the parts of a name, an external declaration
 abbrev pub IsOfTarget : List File → Chosen → OptionTarget → Pair → Type 0
-IsOfTarget files chosen target = IsOfName files chosen target.parts
+IsOfTarget files chosen target = FromFront (IsOfPart files chosen) target.parts (length target.parts)
 
 abbrev pub AreKnownParts : List File → Chosen → OptionTarget → Type 0
 AreKnownParts files chosen target = All (IsKnownPart files chosen) target.parts
@@ -82,7 +71,6 @@ module _ (files : List File) (known : List OptionFacts) (chosen : Chosen) where
     -- over a component of the name that has this target
     pub record OccursByTarget (option : FileOption) (target : OptionTarget) (occurrence : Occurrence) : Type 0 where
       pub is_target : IsOptionTarget files known source text option target
-      pub counts : Counts files is_target.at.file
       pub span : Span
       pub part : Entity
       pub entity : symbols.Entity
@@ -103,7 +91,7 @@ module _ (files : List File) (known : List OptionFacts) (chosen : Chosen) where
   pub record IsOfOption (file : ℕ) (text : List ℕ) (option : FileOption) (x : Pair) : Type 0 where
     pub target : OptionTarget
     pub is_target : IsOptionTarget files known file text option target
-    pub of_name : IsOfName files chosen target.parts x
+    pub of_parts : IsOfTarget files chosen target x
 
   pub record IsOfOptions (texts : List (List ℕ)) (file : ℕ) (x : Pair) : Type 0 where
     pub is_source : IsSource files file

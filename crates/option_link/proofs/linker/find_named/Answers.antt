@@ -9,7 +9,6 @@ use Rattle.option_link.specs.declared.place.DeclaredPlace.{DeclaredPlace}
 use Rattle.option_link.proofs.FitLemmas.{has_parts}
 use Rattle.option_link.proofs.FoundAllLemmas.{found_more}
 use Rattle.option_link.proofs.LoopLemmas.{option_as}
-use Rattle.option_link.proofs.TableLemmas.{source_within}
 use Rattle.option_link.proofs.linker.find_named.Goals as goal
 
 pub context_of-context-requires-clause-numbered : goal.context_of-context-requires-clause-numbered
@@ -27,9 +26,6 @@ context_of-context-requires-clause-given c =
     let option = self.option.now in
     subst (AreGiven files known file text option) (sym c.as_slice.ensures.value) c.requires.found.given
 
-pub target_in-requires-clause-file : goal.target_in-requires-clause-file
-target_in-requires-clause-file c = source_within c.args.asked.files.names.now c.args.asked.file c.requires.source
-
 pub target_in-requires-clause-clear : goal.target_in-requires-clause-clear
 target_in-requires-clause-clear c =
     let self = c.args.asked in
@@ -42,9 +38,6 @@ target_in-requires-clause-clear c =
     option_as c.context_of-context.result ((context : Context) → StandsIn files known file text option count context → ⊥) ⊤
     (λ context. StandsIn files known file text option count context × IsClear files context) (IsClear files)
     (λ none. tt) (λ context its. its.1) c.context_of-context.ensures
-
-pub given_in-requires : goal.given_in-requires
-given_in-requires c = source_within c.args.asked.files.names.now c.args.asked.file c.requires.source
 
 pub add_target-requires : goal.add_target-requires
 add_target-requires c =
@@ -86,7 +79,7 @@ returns c =
     ((one : Context) → StandsIn files known file text option number one → ⊥)
     (λ one. StandsIn files known file text option number one × IsClear files one)
     (StandsIn files known file text option number) (λ none. none) (λ one its. its.0) in_context in
-    found_more files c.linked.ensures.origins c.linked.ensures.own c.linked.ensures.clear.clear known
+    found_more files c.linked.ensures.origins c.linked.ensures.clear.clear known
     self.files.in_order c.facts_in_order.ensures.names c.facts_in_order.ensures.package_name
     c.facts_in_order.ensures.uses c.facts_are_filled.ensures.uses file c.requires.source text option number name
     c.requires.numbered context in_context target c.in_ok-target.ensures c.args.found.now _ c.in_ok-given.given

@@ -14,7 +14,7 @@ returns-then-omits_nothing g c =
     let line = option_map string_bytes run.none_found in
     nothing TellsOfSuccess (λ l. l ≡ line) c.args.closing.explain c.args.closing.is_real run.tree
     (writing g.M.Sink c.args.messages.now c.say_line.new.messages) c.say_line.result
-    string_bytes run.unread.items c.args.told.now
+    run.unread.items c.args.told.now
     (rw c.as_slice-unread.ensures.value at (sym c.omits_nothing.ensures ∙ c.if-omits_nothing.true)) line refl
     c.say_line.ensures
 
@@ -25,12 +25,12 @@ returns g c =
     let messages = writing g.M.Sink c.args.messages.now c.report.new.messages in
     something TellsOfSuccess (λ l. l ≡ option_map string_bytes run.none_found) c.args.closing.explain
     c.args.closing.is_real run.tree messages
-    c.report.result string_bytes run.unread.items c.args.told.now
+    c.report.result run.unread.items c.args.told.now
     (rw c.as_slice-unread.ensures.value at (sym c.omits_nothing.ensures ∙ c.if-omits_nothing.false)) (
       text.0,
       text.1,
       told_one messages c.report.result _ _ string_bytes c.whole_text-text.result
           (IsWholeText c.args.closing.explain c.args.closing.is_real run.tree text.0
-          (map string_bytes run.unread.items) c.args.told.now) refl
+          run.unread.items c.args.told.now) refl
           text.2 c.report.ensures,
     )

@@ -37,7 +37,7 @@ returns-in-Some g c =
     let there = place g.P.OutPlace sink c.args.places.now.file c.finish-done.new.out in
     let report = place g.Q.OutPlace g.Q.Part.Sink c.args.places.now.report c.report_run-reported.new.at in
     let messages = writing g.M.Sink c.args.messages.now c.end-status.new.messages in
-    let unread = map string_bytes run.unread.items in
+    let unread = run.unread.items in
     let allows = IsChosenBy (option_map (λ f. string_bytes f.promise.0) run.choices.filter)
     (option_map (λ r. r.promise.0) run.choices.rule) in
     let recorded : KeptIndex → Recorded = λ index. recorded_of index.built.choices index.built.told in
@@ -86,7 +86,7 @@ returns-in-None g c =
     let there = place g.P.OutPlace sink c.args.places.now.file c.finish-done.new.out in
     let report = place g.Q.OutPlace g.Q.Part.Sink c.args.places.now.report c.report_run-reported.new.at in
     let messages = writing g.M.Sink c.args.messages.now c.end-status.new.messages in
-    let unread = map string_bytes run.unread.items in
+    let unread = run.unread.items in
     let allows = IsChosenBy (option_map (λ f. string_bytes f.promise.0) run.choices.filter)
     (option_map (λ r. r.promise.0) run.choices.rule) in
     let recorded : KeptIndex → Recorded = λ index. recorded_of index.built.choices index.built.told in
@@ -126,7 +126,7 @@ end-status-requires-clause-files g c =
     let run = c.args.run.now in
     let there = place g.P.OutPlace g.P.Part.Sink c.args.places.now.file c.finish-done.new.out in
     let report = place g.Q.OutPlace g.Q.Part.Sink c.args.places.now.report c.report_run-reported.new.at in
-    let unread = map string_bytes run.unread.items in
+    let unread = run.unread.items in
     let allows = IsChosenBy (option_map (λ f. string_bytes f.promise.0) run.choices.filter)
     (option_map (λ r. r.promise.0) run.choices.rule) in
     let reported = c.report_run-reported.result in
@@ -145,7 +145,7 @@ end-status-requires-clause-said g c =
     let there = place g.P.OutPlace g.P.Part.Sink c.args.places.now.file c.finish-done.new.out in
     let ran = c.index_and_tell-ran.result in
     let SaysWith : List _ → KeptIndex → Type 0 = λ unread kept.
-    IsWholeTextIfAny c.explain_in.result c.args.request.now.options.is_real run.tree (map string_bytes unread)
+    IsWholeTextIfAny c.explain_in.result c.args.request.now.options.is_real run.tree unread
     kept.built.told (option_map string_bytes kept.text) in
     let Says : KeptIndex → Type 0 = SaysWith run.unread.items in
     let Said : List _ → Type 0 = λ unread. IfOk ran (SaysWith unread) in

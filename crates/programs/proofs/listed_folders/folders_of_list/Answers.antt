@@ -1,6 +1,7 @@
 use Rattle.std.proofs.Common.{map}
 use Rattle.std.specs.String.{string_bytes}
 use Rattle.std.proofs.lemmas.Result.{err_from_is_err_and}
+use Rattle.source_files.specs.Unread.{unread_of}
 use Rattle.programs.specs.Starting.MayNotStart.{no_package, no_tree_of_list}
 use Rattle.programs.proofs.FolderLemmas.{folders_loaded, from_list}
 use Rattle.programs.proofs.ListedFolderLemmas.{unnamed}
@@ -32,9 +33,9 @@ returns-clause-folders g c =
     let loaded = c.in_ok-loaded.loaded in
     let own = map string_bytes loaded.own.items in
     let others = map (λ here. map string_bytes here.items) loaded.others.items in
-    let unread = map string_bytes loaded.unread.items in
+    let unread = map unread_of loaded.unread.items in
     folders_loaded lists gives finds options loaded.tree c.in_ok-made.made.tree own others unread
-    (map string_bytes c.in_ok-made.made.unread.items) c.in_ok-made.made.packages
+    c.in_ok-made.made.unread.items c.in_ok-made.made.packages
     (from_list lists gives finds options c.args.list.now loaded.tree own others unread c.requires.listed
     c.in_ok-loaded.ensures.loaded)
     c.in_ok-made.ensures.read c.in_ok-made.ensures.unread c.in_ok-made.ensures.by

@@ -14,7 +14,7 @@ returns-in_err-bytes g c =
     let run = c.args.reporter.now.run.now in
     let options = c.args.reporter.now.options.now in
     let ran = ran_of c.args.told.now c.args.fault in
-    let unread = map string_bytes run.unread.items in
+    let unread = run.unread.items in
     let allows = IsChosenBy (option_map (λ f. string_bytes f.promise.0) run.choices.filter)
     (option_map (λ r. r.promise.0) run.choices.rule) in
     let Is : ReportFormat → List ℕ → Type 0 = λ format. IsReport allows run.settings run.tree unread format ran
@@ -33,7 +33,7 @@ returns g c =
     let run = c.args.reporter.now.run.now in
     let options = c.args.reporter.now.options.now in
     let ran = ran_of c.args.told.now c.args.fault in
-    let unread = map string_bytes run.unread.items in
+    let unread = run.unread.items in
     let allows = IsChosenBy (option_map (λ f. string_bytes f.promise.0) run.choices.filter)
     (option_map (λ r. r.promise.0) run.choices.rule) in
     let Is : ReportFormat → ℕ → List ℕ → Type 0 = λ format. IsReport allows run.settings run.tree unread format ran

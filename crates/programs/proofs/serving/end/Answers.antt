@@ -12,7 +12,7 @@ returns-in-Ok g c =
     rw c.in-Ok.is
     (subst (λ (told : List Omission). SaysOmissions TellsOfSuccess
     (λ line. line ≡ option_map string_bytes c.args.run.now.none_found) c.args.closing.explain c.args.closing.is_real
-    c.args.run.now.tree (map string_bytes c.args.run.now.unread.items) told
+    c.args.run.now.tree c.args.run.now.unread.items told
     (writing g.M.Sink c.args.messages.now c.tell.new.messages) c.tell.result)
     c.as_slice.ensures c.tell.ensures)
 

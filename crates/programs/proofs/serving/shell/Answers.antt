@@ -39,7 +39,7 @@ returns-in-Err-clause-served g c =
 pub returns-in-Err-see_report-clause-served : goal.returns-in-Err-see_report-clause-served
 returns-in-Err-see_report-clause-served g c =
     let run = c.in-Ok.start in
-    not_begun run.tree (map string_bytes run.unread.items) run.settings.package c.in-Err-see_report.fault
+    not_begun run.tree run.unread.items run.settings.package c.in-Err-see_report.fault
     c.in-Ok.ensures.named c.in-Ok.ensures.folders
     c.in-Err-see_report.ensures.stops (record { unread = refl; unwritten = refl }, refl) c.report_start.ensures
 
@@ -49,7 +49,7 @@ returns-clause-served g c =
     let line = option_map string_bytes run.none_found in
     let messages = writing g.M.Sink c.args.messages.now c.end.new.messages in
     let options = c.args.options.now in
-    let unread = map string_bytes run.unread.items in
+    let unread = run.unread.items in
     let report = place g.Q.OutPlace g.Q.Part.Sink c.args.report.now c.report_run-reported.new.at in
     let ran = c.session_in-ran.result in
     let reported = c.report_run-reported.result in
@@ -138,5 +138,5 @@ end-requires-clause-files g c =
     subst (λ (r : Result Recorded Fault). IfErr r (HasFilesOf run.tree)) (sym c.settle-done.ensures)
     (settled_files run.tree c.session_in-ran.result reported c.session_in-ran.ensures.files
     (reported_files report c.args.options.now.report no_limits allows run.settings run.workers run.tree
-    (map string_bytes run.unread.items) (ran_of c.told_in.result.now c.fault_in.result) reported
+    run.unread.items (ran_of c.told_in.result.now c.fault_in.result) reported
     c.report_run-reported.ensures))

@@ -1,73 +1,66 @@
-use Rattle.std.proofs.Common.{◌≡◌, true, false, refl}
+use Rattle.std.proofs.Common.{◌≡◌, true, false}
 use Rattle.std.proofs.lemmas.Result.{err_from_is_err_and}
-use Rattle.proto_lex.specs.declared.token.TokenKind.TheVariants.{Comma}
-use Rattle.proto_grammar.specs.Terminal.{first_is, of_kind, not_next}
-use Rattle.proto_options.specs.Reading.Aggregates.{comma_element_at, comma_elements_at, text_field_at, fields_at}
-use Rattle.proto_options.specs.Reading.Aggregates.{within_at}
+use Rattle.proto_options.specs.Grammar.Aggregates.{list_is_over, is_over}
+use Rattle.proto_options.specs.Reading.Aggregates.{element_at, elements_at, item_at, items_at, message_at}
 use Rattle.proto_grammar.proofs.RepetitionUntilLemmas.{Fails-of, goes_on, is_done, stops}
-use Rattle.proto_options.proofs.FallLemmas.{within_elements_fall, within_fields_fall}
+use Rattle.proto_options.proofs.MessageFallLemmas.{elements_fall, items_fall}
 use Rattle.proto_options.proofs.aggregates.+aggregates.Goals as goal
 
-pub comma_elements-elements-smaller : goal.comma_elements-elements-smaller
-comma_elements-elements-smaller t c =
-    within_elements_fall c.args.levels c.args.are_messages c.args.around c.elements.names c.elements.cursor
-    (_, c.comma_element.new.cursor) c.in_ok-comma_element.ensures
+pub elements-elements-smaller : goal.elements-elements-smaller
+elements-elements-smaller t c =
+    elements_fall c.args.levels c.args.around c.elements.names c.elements.cursor (_, c.element.new.cursor)
+    c.in_ok-element.ensures
 
-pub comma_elements-elements-preserved : goal.comma_elements-elements-preserved
-comma_elements-elements-preserved t c =
-    let is : first_is (of_kind Comma) c.elements.cursor.left ≡ true = cc in
-    let further : not_next Comma c.elements.cursor.left ≡ false = rw is refl in
-    goes_on (not_next Comma) (comma_element_at (within_at c.args.levels) c.args.are_messages c.args.around)
-    (within_elements_fall c.args.levels c.args.are_messages c.args.around) c.elements.names _ c.elements.cursor
-    c.comma_element.new.cursor _ c.elements.invariant further c.in_ok-comma_element.ensures
+pub elements-elements-preserved : goal.elements-elements-preserved
+elements-elements-preserved t c =
+    let further : list_is_over c.elements.cursor.left ≡ false = cc in
+    goes_on list_is_over (element_at (message_at c.args.levels) c.args.around)
+    (elements_fall c.args.levels c.args.around) c.elements.names _ c.elements.cursor c.element.new.cursor _
+    c.elements.invariant further c.in_ok-element.ensures
 
-pub comma_elements-returns-in_err-comma_element : goal.comma_elements-returns-in_err-comma_element
-unfolding comma_elements_at
-comma_elements-returns-in_err-comma_element t c =
-    let is : first_is (of_kind Comma) c.elements.cursor.left ≡ true = cc in
-    let further : not_next Comma c.elements.cursor.left ≡ false = rw is refl in
-    let step = comma_element_at (within_at c.args.levels) c.args.are_messages c.args.around in
+pub elements-returns-in_err-element : goal.elements-returns-in_err-element
+unfolding elements_at
+elements-returns-in_err-element t c =
+    let further : list_is_over c.elements.cursor.left ≡ false = cc in
+    let step = element_at (message_at c.args.levels) c.args.around in
     let p = err_from_is_err_and c.from_residual.result c.from_residual.ensures.1 in
     rw (p.1, p.2)
     (Fails-of _ _ (step c.elements.names c.elements.cursor) _
-    (stops (not_next Comma) step (within_elements_fall c.args.levels c.args.are_messages c.args.around)
-    c.elements.names c.elements.cursor _ c.elements.invariant further) c.in_err-comma_element.ensures)
+    (stops list_is_over step (elements_fall c.args.levels c.args.around) c.elements.names c.elements.cursor _
+    c.elements.invariant further) c.in_err-element.ensures)
 
-pub comma_elements-returns : goal.comma_elements-returns
-unfolding comma_elements_at
-comma_elements-returns t c =
-    let is : first_is (of_kind Comma) c.elements.cursor.left ≡ false = cc in
-    let past : not_next Comma c.elements.cursor.left ≡ true = rw is refl in
-    is_done (not_next Comma) (comma_element_at (within_at c.args.levels) c.args.are_messages c.args.around)
-    (within_elements_fall c.args.levels c.args.are_messages c.args.around) c.elements.names c.elements.cursor _
-    c.elements.invariant past
+pub elements-returns : goal.elements-returns
+unfolding elements_at
+elements-returns t c =
+    let past : list_is_over c.elements.cursor.left ≡ true = cc in
+    is_done list_is_over (element_at (message_at c.args.levels) c.args.around)
+    (elements_fall c.args.levels c.args.around) c.elements.names c.elements.cursor _ c.elements.invariant past
 
-pub text_fields-fields-smaller : goal.text_fields-fields-smaller
-text_fields-fields-smaller t c =
-    within_fields_fall c.args.levels c.args.around c.fields.names c.fields.cursor (_, c.text_field.new.cursor)
-    c.in_ok-text_field.ensures
+pub items-items-smaller : goal.items-items-smaller
+items-items-smaller t c =
+    items_fall c.args.levels c.args.around c.items.names c.items.cursor (_, c.item.new.cursor) c.in_ok-item.ensures
 
-pub text_fields-fields-preserved : goal.text_fields-fields-preserved
-text_fields-fields-preserved t c =
-    let further : first_is (of_kind c.args.closing) c.fields.cursor.left ≡ false = cc in
-    goes_on (first_is (of_kind c.args.closing)) (text_field_at (within_at c.args.levels) c.args.around)
-    (within_fields_fall c.args.levels c.args.around) c.fields.names _ c.fields.cursor c.text_field.new.cursor _
-    c.fields.invariant further c.in_ok-text_field.ensures
+pub items-items-preserved : goal.items-items-preserved
+items-items-preserved t c =
+    let further : is_over c.args.closing c.items.cursor.left ≡ false = cc in
+    goes_on (is_over c.args.closing) (item_at (message_at c.args.levels) c.args.around)
+    (items_fall c.args.levels c.args.around) c.items.names _ c.items.cursor c.item.new.cursor _ c.items.invariant
+    further c.in_ok-item.ensures
 
-pub text_fields-returns-in_err-text_field : goal.text_fields-returns-in_err-text_field
-unfolding fields_at
-text_fields-returns-in_err-text_field t c =
-    let further : first_is (of_kind c.args.closing) c.fields.cursor.left ≡ false = cc in
-    let step = text_field_at (within_at c.args.levels) c.args.around in
+pub items-returns-in_err-item : goal.items-returns-in_err-item
+unfolding items_at
+items-returns-in_err-item t c =
+    let further : is_over c.args.closing c.items.cursor.left ≡ false = cc in
+    let step = item_at (message_at c.args.levels) c.args.around in
     let p = err_from_is_err_and c.from_residual.result c.from_residual.ensures.1 in
     rw (p.1, p.2)
-    (Fails-of _ _ (step c.fields.names c.fields.cursor) _
-    (stops (first_is (of_kind c.args.closing)) step (within_fields_fall c.args.levels c.args.around) c.fields.names
-    c.fields.cursor _ c.fields.invariant further) c.in_err-text_field.ensures)
+    (Fails-of _ _ (step c.items.names c.items.cursor) _
+    (stops (is_over c.args.closing) step (items_fall c.args.levels c.args.around) c.items.names c.items.cursor _
+    c.items.invariant further) c.in_err-item.ensures)
 
-pub text_fields-returns : goal.text_fields-returns
-unfolding fields_at
-text_fields-returns t c =
-    let past : first_is (of_kind c.args.closing) c.fields.cursor.left ≡ true = cc in
-    is_done (first_is (of_kind c.args.closing)) (text_field_at (within_at c.args.levels) c.args.around)
-    (within_fields_fall c.args.levels c.args.around) c.fields.names c.fields.cursor _ c.fields.invariant past
+pub items-returns : goal.items-returns
+unfolding items_at
+items-returns t c =
+    let past : is_over c.args.closing c.items.cursor.left ≡ true = cc in
+    is_done (is_over c.args.closing) (item_at (message_at c.args.levels) c.args.around)
+    (items_fall c.args.levels c.args.around) c.items.names c.items.cursor _ c.items.invariant past

@@ -11,8 +11,7 @@ use Rattle.proto_visibility.proofs.omissions.begin_kept.Goals as goal
 pub loop-number-init : goal.loop-number-init
 loop-number-init c = record {
   files = c.requires.files;
-  begun = begun_none (IsKeptSource c.args.files.now c.args.omissions.now) c.args.table.now c.args.search.now.numbers
-      c.requires.none;
+  begun = begun_none (IsKeptSource c.args.files.now c.args.omissions.now) c.args.table.now c.args.search.now.numbers;
 }
 
 pub loop-number-preserved-then-not-is_source : goal.loop-number-preserved-then-not-is_source
@@ -26,7 +25,7 @@ loop-number-preserved-then-not-is_source c =
     record {
       files = c.loop-number.invariant.files;
       begun = begun_skip (IsKeptSource files c.args.omissions.now) c.args.table.now number
-          c.loop-number.search.numbers
+          c.args.search.now.numbers c.loop-number.search.numbers
           (λ is. no_source_from files number file stands (sym c.is_source.ensures ∙ c.if-not-is_source.true) is.0)
           c.loop-number.invariant.begun;
     }
@@ -35,7 +34,7 @@ pub loop-number-preserved-then-not-is_kept : goal.loop-number-preserved-then-not
 loop-number-preserved-then-not-is_kept c = record {
   files = c.loop-number.invariant.files;
   begun = begun_skip (IsKeptSource c.args.files.now c.args.omissions.now) c.args.table.now c.loop-number.number
-      c.loop-number.search.numbers
+      c.args.search.now.numbers c.loop-number.search.numbers
       (λ is. false≢true (sym c.if-not-is_kept.true ∙ c.is_kept.ensures.1 is.1)) c.loop-number.invariant.begun;
 }
 
@@ -59,7 +58,7 @@ loop-number-preserved c =
     record {
       files = c.in_ok-begin.ensures.files ∙ c.loop-number.invariant.files;
       begun = begun_more (IsKeptSource files c.args.omissions.now) c.args.table.now number
-          c.loop-number.search.numbers c.begin.new.search.numbers (
+          c.args.search.now.numbers c.loop-number.search.numbers c.begin.new.search.numbers (
             source_from files number file stands (sym c.is_source.ensures ∙ c.if-not-is_source.false),
             c.is_kept.ensures.0 c.if-not-is_kept.false,
           )
@@ -70,5 +69,5 @@ pub returns-clause-begun : goal.returns-clause-begun
 returns-clause-begun c =
     let files = c.args.files.now in
     begun_all (IsKeptSource files c.args.omissions.now) files c.args.table.now c.loop-number.number
-    c.loop-number.search.numbers (kept_source_within files c.args.omissions.now) (omega arith)
+    c.args.search.now.numbers c.loop-number.search.numbers (kept_source_within files c.args.omissions.now) (omega arith)
     c.loop-number.invariant.begun

@@ -7,5 +7,5 @@ abbrev pub invariant-loop-number : goal.invariant-loop-number
 invariant-loop-number l =
     record {
       files : l.search.files ≡ length l.table;
-      begun : HasBegun (IsKeptSource l.files l.omissions) l.table l.number l.search.numbers;
+      begun : HasBegun (IsKeptSource l.files l.omissions) l.table l.number l.fn.search.numbers l.search.numbers;
     }

@@ -24,7 +24,7 @@ omit_unread-requires-2-clause-one_each c =
 
 pub omit_unread-requires-2-clause-within : goal.omit_unread-requires-2-clause-within
 omit_unread-requires-2-clause-within c =
-    λ number there. counted_within c.args.files.now c.as_slice-3.result.now number
+    λ number there. counted_within c.args.files.now c.as_slice-5.result.now number
     ((c.in_ok-others.ensures number).0 there).0
 
 pub omit_own_clashes-requires-2-clause-one_each : goal.omit_own_clashes-requires-2-clause-one_each
@@ -34,7 +34,7 @@ omit_own_clashes-requires-2-clause-one_each c =
 
 pub omit_own_clashes-requires-2-clause-within : goal.omit_own_clashes-requires-2-clause-within
 omit_own_clashes-requires-2-clause-within c =
-    λ number there. counted_within c.args.files.now c.as_slice-3.result.now number
+    λ number there. counted_within c.args.files.now c.as_slice-5.result.now number
     ((c.in_ok-others.ensures number).0 there).0
 
 pub returns : goal.returns
@@ -44,7 +44,7 @@ returns c =
     let others = c.in_ok-others.others in
     let passed = c.omit_own_clashes.new.omissions.items in
     let counted = subst (λ (os : Omissions). (number : ℕ) → Contains others number
-    ↔ (IsCounted files os number × (IsSource files number → ⊥))) c.as_slice-3.ensures.value c.in_ok-others.ensures in
+    ↔ (IsCounted files os number × (IsSource files number → ⊥))) c.as_slice-5.ensures.value c.in_ok-others.ensures in
     are_own_omissions files sources others c.in_ok-omissions.omissions.items c.omit_unread.new.omissions.items passed
     c.omit_unread-2.new.omissions.items c.omit_own_clashes-2.new.omissions.items c.in_ok-sources.ensures
     c.in_ok-omissions.ensures.size c.in_ok-omissions.ensures.none c.omit_unread.ensures

@@ -25,12 +25,12 @@ omit_unread-requires-2-clause-one_each c =
 
 pub omit_unread-requires-2-clause-within : goal.omit_unread-requires-2-clause-within
 omit_unread-requires-2-clause-within c =
-    λ number there. counted_within c.args.files.now c.as_slice-4.result.now number
+    λ number there. counted_within c.args.files.now c.as_slice-6.result.now number
     ((c.in_ok-others.ensures number).0 there).0
 
 pub all_items-requires-2-clause-within : goal.all_items-requires-2-clause-within
 all_items-requires-2-clause-within c =
-    λ number there. counted_within c.args.files.now c.as_slice-4.result.now number
+    λ number there. counted_within c.args.files.now c.as_slice-6.result.now number
     ((c.in_ok-others.ensures number).0 there).0
 
 pub returns : goal.returns
@@ -51,12 +51,12 @@ returns c =
     c.as_slice-2.ensures.value c.in_ok-omit_clashes.ensures in
     let passed_count : c.len-passed.result ≡ length items =
     omega (arith, c.len-passed.ensures, c.in_ok-items.items.ok.0) in
-    let both = c.as_slice-6.ensures.value ∙ c.in_ok-append.ensures.items in
+    let both = c.as_slice-8.ensures.value ∙ c.in_ok-append.ensures.items in
     let counted = subst (λ (os : Omissions). (number : ℕ) → Contains others number
-    ↔ (IsCounted files os number × (IsSource files number → ⊥))) c.as_slice-4.ensures.value c.in_ok-others.ensures in
+    ↔ (IsCounted files os number × (IsSource files number → ⊥))) c.as_slice-6.ensures.value c.in_ok-others.ensures in
     are_omissions files sources others items more none start passed open_ omissions names c.omit_clashes-2.new.names
     c.in_ok-sources.ensures c.in_ok-omissions.ensures.size c.in_ok-omissions.ensures.none
     c.omit_unread.ensures c.in_ok-items.ensures.items c.in_ok-items.ensures.order pass counted c.omit_unread-2.ensures
     c.in_ok-more.ensures.items c.in_ok-more.ensures.order
-    (second_pass files (items ++ more) c.as_slice-6.result.now c.len-passed.result (length items) open_ omissions names
+    (second_pass files (items ++ more) c.as_slice-8.result.now c.len-passed.result (length items) open_ omissions names
     c.omit_clashes-2.new.names both passed_count c.in_ok-omit_clashes-2.ensures)

@@ -9,7 +9,7 @@ use Rattle.proto_visibility.proofs.seeing.begin_sources.Goals as goal
 pub loop-number-init : goal.loop-number-init
 loop-number-init c = record {
   files = c.requires.files;
-  begun = begun_none (IsSource c.args.files.now) c.args.table.now c.args.search.now.numbers c.requires.none;
+  begun = begun_none (IsSource c.args.files.now) c.args.table.now c.args.search.now.numbers;
 }
 
 pub loop-number-preserved-then-not-is_source : goal.loop-number-preserved-then-not-is_source
@@ -22,7 +22,7 @@ loop-number-preserved-then-not-is_source c =
     slice_get_read files (length files) number file refl within c.index-files-number.is in
     record {
       files = c.loop-number.invariant.files;
-      begun = begun_skip (IsSource files) c.args.table.now number c.loop-number.search.numbers
+      begun = begun_skip (IsSource files) c.args.table.now number c.args.search.now.numbers c.loop-number.search.numbers
           (no_source_from files number file stands (sym c.is_source.ensures ∙ c.if-not-is_source.true))
           c.loop-number.invariant.begun;
     }
@@ -46,7 +46,7 @@ loop-number-preserved c =
     slice_get_read files (length files) number file refl within c.index-files-number.is in
     record {
       files = c.in_ok-begin.ensures.files ∙ c.loop-number.invariant.files;
-      begun = begun_more (IsSource files) c.args.table.now number c.loop-number.search.numbers
+      begun = begun_more (IsSource files) c.args.table.now number c.args.search.now.numbers c.loop-number.search.numbers
           c.begin.new.search.numbers
           (source_from files number file stands (sym c.is_source.ensures ∙ c.if-not-is_source.false))
           c.in_ok-begin.ensures.begun c.loop-number.invariant.begun;
@@ -55,5 +55,5 @@ loop-number-preserved c =
 pub returns-clause-begun : goal.returns-clause-begun
 returns-clause-begun c =
     let files = c.args.files.now in
-    begun_all (IsSource files) files c.args.table.now c.loop-number.number c.loop-number.search.numbers
+    begun_all (IsSource files) files c.args.table.now c.loop-number.number c.args.search.now.numbers c.loop-number.search.numbers
     (source_within files) (omega arith) c.loop-number.invariant.begun

@@ -7,5 +7,5 @@ abbrev pub invariant-loop-number : goal.invariant-loop-number
 invariant-loop-number l =
     record {
       files : l.search.files ≡ length l.table;
-      begun : HasBegun (IsSource l.files) l.table l.number l.search.numbers;
+      begun : HasBegun (IsSource l.files) l.table l.number l.fn.search.numbers l.search.numbers;
     }

@@ -13,4 +13,5 @@ returns c =
       symbols = c.symbols_name_one_entity_in_packages.ensures;
       targets = c.each_use_has_a_target.ensures;
       in_options = c.each_option_name_has_parts.ensures;
+      reachable = c.targets_are_reachable.ensures;
     }

@@ -1,12 +1,11 @@
-use Rattle.std.proofs.Common.{◌∙◌, ◌++◌, ℕ, List, ap, ap₂, append_assoc, map}
-use Rattle.std.specs.String.{string_bytes}
+use Rattle.std.proofs.Common.{◌∙◌, ◌++◌, ℕ, List, ap, ap₂, append_assoc}
 use Rattle.protoscip.specs.ToldLines.{counts_line_with}
 use Rattle.protoscip.specs.Unread.{unread_lines}
 use Rattle.protoscip.proofs.telling.text_of.Goals as goal
 
 pub returns : goal.returns
 returns c =
-    let paths = map string_bytes c.args.telling.now.unread.now in
+    let paths = c.args.telling.now.unread.now in
     let unread = unread_lines c.args.telling.now.explain paths in
     let lines = c.in_ok-push_lines.ensures in (
       lines.0,

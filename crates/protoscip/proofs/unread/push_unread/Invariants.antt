@@ -1,4 +1,4 @@
-use Rattle.std.proofs.Common.{◌≡◌, ◌++◌, drop, map}
+use Rattle.std.proofs.Common.{◌≡◌, ◌++◌, drop}
 use Rattle.std.specs.String.{string_bytes}
 use Rattle.protoscip.specs.Unread.{unread_lines}
 use Rattle.protoscip.proofs.unread.push_unread.Given as goal
@@ -6,5 +6,5 @@ use Rattle.protoscip.proofs.unread.push_unread.Given as goal
 -- the lines so far, and those that are left
 abbrev pub invariant-loop-path : goal.invariant-loop-path
 invariant-loop-path l =
-    string_bytes l.out ++ unread_lines l.explain (map string_bytes (drop l.path-index l.unread))
-    ≡ string_bytes l.fn.out ++ unread_lines l.explain (map string_bytes l.unread)
+    string_bytes l.out ++ unread_lines l.explain (drop l.path-index l.unread)
+    ≡ string_bytes l.fn.out ++ unread_lines l.explain l.unread

@@ -13,6 +13,12 @@ externals_with_options-requires-clause-options c =
     (subst (AreLent (asked_in sources.settings.now sources.parsed.now) sources.package.now.files) c.in-Some.is
     c.requires.options).1
 
+pub externals_with_options-requires-clause-linked : goal.externals_with_options-requires-clause-linked
+externals_with_options-requires-clause-linked c =
+    let sources = c.args.sources.now in
+    (subst (AreLent (asked_in sources.settings.now sources.parsed.now) sources.package.now.files) c.in-Some.is
+    c.requires.options).2
+
 pub externals_with_options-requires-clause-texts : goal.externals_with_options-requires-clause-texts
 externals_with_options-requires-clause-texts c =
     rw c.as_slice.ensures.value

@@ -1,8 +1,9 @@
 use Rattle.std.proofs.Common.{◌∙◌, length, ap, sym, subst}
 use Rattle.option_link.specs.Fields.{AreInOrder}
+use Rattle.scip_model.specs.Options.{AllLinkOptions}
 use Rattle.scip_build.specs.Documents.{asked_in}
 use Rattle.scip_build.proofs.LinkedOptionLemmas.{known_each, options_asked, options_lent}
-use Rattle.scip_build.proofs.ReadyLemmas.{in_order_of}
+use Rattle.scip_build.proofs.ReadyLemmas.{in_order_of, link_options}
 use Rattle.scip_build.proofs.building.make_with.Goals as goal
 
 pub options_if_asked-requires-clause-each : goal.options_if_asked-requires-clause-each
@@ -23,4 +24,5 @@ make_from-requires-clause-options g c = λ _ _.
     c.as_ref.ensures.value
     (options_asked settings parsed c.asks_options-asked.result c.asks_options-asked.ensures c.args.beside.now
     (λ asked. c.requires.beside (sym c.asks_options-asked.ensures ∙ asked)) c.args.linker.now
+    (λ asks. subst AllLinkOptions (sym c.requires.files) (link_options parsed c.requires.tree asks))
     c.in_ok-options.options c.in_ok-options.ensures)

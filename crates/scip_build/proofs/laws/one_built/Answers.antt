@@ -5,11 +5,11 @@ pub returns-clause-of_choices : goal.returns-clause-of_choices
 returns-clause-of_choices g c =
     one_built_of_choices c.one_list_of_facts_a_file.ensures c.one_beside_a_file.ensures
     c.faults_exclude_facts.ensures.facts
-    c.one_fault_a_file.ensures c.one_omission_list.ensures c.one_index.ensures.indexes
-    (g.C.Chooses.allows c.args.chooser.now) (g.D.Chooses.allows c.args.other.now)
+    c.one_fault_a_file.ensures c.one_omission_list.ensures
+    (g.C.Chooses.allows c.args.chooser.now) (g.D.Chooses.allows c.args.other.now) c.one_index.ensures.indexes
 
 pub returns-clause-one : goal.returns-clause-one
 returns-clause-one g c =
     one_built c.one_list_of_facts_a_file.ensures c.one_beside_a_file.ensures c.faults_exclude_facts.ensures.facts
-    c.one_fault_a_file.ensures c.one_omission_list.ensures c.one_index.ensures.indexes
-    (g.C.Chooses.allows c.args.chooser.now) (g.D.Chooses.allows c.args.other.now)
+    c.one_fault_a_file.ensures c.one_omission_list.ensures
+    (g.C.Chooses.allows c.args.chooser.now) (g.D.Chooses.allows c.args.other.now) c.one_index.ensures.indexes

@@ -1,9 +1,8 @@
 use Rattle.std.proofs.Common.{◌∙◌, sym, subst, Option, List}
 use Rattle.std.specs.Prelude.{IfOk}
-use Rattle.basics.proofs.ListLemmas.{in_nothing}
 use Rattle.option_link.specs.declared.facts.OptionFacts.{OptionFacts}
 use Rattle.scip_model.specs.Makers.{IsItsDocumentWith}
-use Rattle.scip_model.specs.Options.{AreOptionGapsIf}
+use Rattle.scip_model.specs.Options.{AllLinkOptions, AreOptionGapsIf}
 use Rattle.scip_build.specs.Documents.{asked_in}
 use Rattle.scip_build.specs.Works.{AreLent}
 use Rattle.scip_build.proofs.source_document.plan.Goals as goal
@@ -13,7 +12,10 @@ plan_with_options-requires-clause-options c =
     let sources = c.args.sources.now in
     let has = subst (AreLent (asked_in sources.settings.now sources.parsed.now) sources.package.now.files)
     c.in-Some.is c.requires.options in
-    has.1 ∙ sym c.requires.package
+    let source = c.args.maker.now.source in (
+      has.1 ∙ sym c.requires.package,
+      subst AllLinkOptions (sym c.requires.package) has.2 source c.requires.source,
+    )
 
 pub returns-in-Some-clause-document : goal.returns-in-Some-clause-document
 returns-in-Some-clause-document c =

@@ -11,10 +11,9 @@ use Rattle.scip_model.specs.Indexes.{info_cmp, IsAscendingListOf}
 use Rattle.scip_symbol.specs.Path.{IsGoodPath}
 use Rattle.scip_model.specs.Tables.EntryLists.{source_entries, choices_for, package_names}
 use Rattle.scip_model.specs.Tables.Plans.{arounds_in, text_at, entry_of}
-use Rattle.option_link.specs.Counted.Counts.{reachable as of_reachable}
-use Rattle.scip_model.proofs.NamedApartLemmas.{AreCounted}
+use Rattle.scip_model.proofs.NamedApartLemmas.{AreReachable}
 use Rattle.scip_model.proofs.EntryNumberLemmas.{texts_rank, sorted_entries, all_are, are_numbered}
-use Rattle.scip_model.proofs.ConditionLinkedLemmas.{source-counts}
+use Rattle.scip_model.proofs.ConditionLinkedLemmas.{source-reachable}
 use Rattle.scip_model.proofs.EntrySourceLemmas.{distinct, source-list}
 use Rattle.scip_model.proofs.entries.entry_numbers.Goals as goal
 
@@ -35,8 +34,8 @@ returns c =
     let file = c.requires.path in
     let known = c.symbols_stand_apart.ensures.known in
     let good = c.symbols_stand_apart.ensures.packages in
-    let reachable : AreCounted files source facts =
-    record { counts = of_reachable (source-counts files source c.requires.source); known = c.requires.known } in
+    let reachable : AreReachable files source facts =
+    record { is_reachable = source-reachable files source c.requires.source; known = c.requires.known } in
     let choices = choices_for c.args.maker.now.choices.now source in
     let texts = c.args.texts.now in
     let named : path_at files source ≡ c.args.path.now = ap path_if_there file.1 ∙ file.2 in

@@ -7,6 +7,7 @@ use Rattle.option_link.specs.declared.facts.OptionFacts.{OptionFacts}
 use Rattle.scip_model.specs.Chosen.{Chosen, HaveChoices}
 use Rattle.scip_model.specs.Indexes.{AreExternalsWith, IsAscendingListOf, info_cmp}
 use Rattle.scip_model.specs.Tables.ExternalLists.{Pair, Adds, HasEntryAmong, IsExternal, NoneIncluded}
+use Rattle.scip_model.specs.Options.{AllLinkOptions}
 use Rattle.scip_model.specs.Tables.OptionListing.{IsOptionExternal}
 use Rattle.scip_model.proofs.OptionExternalLemmas.{all-there, all-with, none-with}
 use Rattle.scip_model.proofs.external_options.externals_with_options.Goals as goal
@@ -26,6 +27,7 @@ push_files-requires c =
       choices = subst (λ (files : List File). HaveChoices files c.args.choices.now) (sym c.linker-linker.ensures.files)
           c.requires.choices;
       texts = c.requires.texts ∙ ap (λ (files : List File). length files) (sym c.linker-linker.ensures.files);
+      linked = subst AllLinkOptions (sym c.linker-linker.ensures.files) c.requires.linked;
     }
 
 -- what is added, of the files of the packages
@@ -55,7 +57,7 @@ entries_by_symbol-requires-clause-there c =
     all-there files known chosen c.args.named.now.ids read c.in_ok-pairs.pairs.items c.push_files.new.named.items
     (of-uses linked files chosen c.in_ok-pairs.pairs.items c.linker-linker.ensures.files c.in_ok-pairs.ensures)
     (of-options linked files known chosen c.args.texts.now c.in_ok-pairs.pairs.items c.push_files.new.named.items
-    c.linker-linker.ensures.files c.in_ok-push_files.ensures)
+    c.linker-linker.ensures.files c.in_ok-push_files.ensures) c.targets_are_reachable.ensures c.requires.linked
 
 pub returns-then-first-count : goal.returns-then-first-count
 returns-then-first-count c =

@@ -4,6 +4,7 @@ use Rattle.std.proofs.lemmas.Option.{slice_get_read}
 use Rattle.std.proofs.lemmas.List.Elements.{Contains-get_or}
 use Rattle.option_link.specs.declared.target.OptionTarget.{OptionTarget}
 use Rattle.proto_visibility.specs.Files.{File, IsSource}
+use Rattle.proto_visibility.specs.Reaches.{LinksOptions}
 use Rattle.scip_model.specs.Tables.Additions.{Adds, FromFront}
 use Rattle.scip_model.specs.Tables.OptionListing.{AreKnownParts, IsOfOption, IsOfTarget}
 use Rattle.scip_model.proofs.ExternalSymbolLemmas.{adds-all, adds-more}
@@ -13,16 +14,18 @@ use Rattle.scip_model.proofs.OptionTargetLemmas.{all-known, its-targets}
 use Rattle.scip_model.proofs.external_options.push_options.Goals as goal
 
 pub targets-requires : goal.targets-requires
-targets-requires c =
-    subst (λ (files : List File). IsSource files c.args.source) (sym c.requires.files) c.requires.source
+targets-requires c = record {
+  source = subst (λ (files : List File). IsSource files c.args.source) (sym c.requires.files) c.requires.source;
+  links = subst (λ (files : List File). LinksOptions files c.args.source) (sym c.requires.files) c.requires.links;
+}
 
 pub loop-option-init : goal.loop-option-init
 loop-option-init c = front-none
     (IsOfOption c.args.linker.now c.args.options.now.known c.args.choices.now c.args.source c.args.text.now)
     c.options_of-option-items.result.now c.args.named.now.items
 
-pub push_targets-requires-clause-parts : goal.push_targets-requires-clause-parts
-push_targets-requires-clause-parts c =
+pub push_targets-requires : goal.push_targets-requires
+push_targets-requires c =
     let files = c.args.linker.now in
     let found = c.in_ok-found.found.targets in
     subst (λ (targets : List OptionTarget). All (AreKnownParts files c.args.choices.now) targets)

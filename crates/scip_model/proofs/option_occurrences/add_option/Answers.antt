@@ -6,6 +6,7 @@ use Rattle.basics.proofs.FirstLemmas.{contained}
 use Rattle.option_link.specs.declared.target.OptionTarget.{OptionTarget}
 use Rattle.option_link.specs.OptionNames.{IsOptionTarget}
 use Rattle.proto_visibility.specs.Files.{File, IsSource}
+use Rattle.proto_visibility.specs.Reaches.{LinksOptions}
 use Rattle.scip_model.specs.Makers.{OccursByItsTarget}
 use Rattle.scip_model.specs.Tables.Plans.{occurrence_of}
 use Rattle.scip_model.proofs.OptionGapLemmas.{one-gap}
@@ -16,7 +17,12 @@ use Rattle.scip_model.proofs.option_occurrences.add_option.Goals as goal
 
 pub targets-requires : goal.targets-requires
 targets-requires c =
-    subst (λ (files : List File). IsSource files c.args.maker.now.source) (sym c.requires.options) c.requires.source
+    let source = c.args.maker.now.source in
+    let same = sym c.requires.options.0 in
+    record {
+      source = subst (λ (files : List File). IsSource files source) same c.requires.source;
+      links = subst (λ (files : List File). LinksOptions files source) same c.requires.options.1;
+    }
 
 pub loop-target-init : goal.loop-target-init
 loop-target-init c = record {
@@ -40,7 +46,7 @@ add_target-requires-clause-is_target c =
     let target = c.target-item.result in
     let listed = contained targets index target
     (slice_get_read targets (length targets) index target refl c.loop-target-test.true c.target-item.is) in
-    (its-targets c.args.options.now.files maker.package.now.files c.requires.options c.args.options.now.known maker.source
+    (its-targets c.args.options.now.files maker.package.now.files c.requires.options.0 c.args.options.now.known maker.source
     c.as_str-text.result.now maker.text.now c.as_str-text.ensures.same c.args.option.now targets
     (subst (λ (list : List OptionTarget). (its : OptionTarget) → Contains list its
     ↔ IsOptionTarget c.args.options.now.files c.args.options.now.known maker.source c.as_str-text.result.now
@@ -74,7 +80,7 @@ returns-clause-added c =
     (λ told around later grown.
     by-option maker.package.now.files known maker.choices.now maker.package.now.ids maker.encoding maker.source
     maker.text.now option targets
-    (its-targets c.args.options.now.files maker.package.now.files c.requires.options known maker.source
+    (its-targets c.args.options.now.files maker.package.now.files c.requires.options.0 known maker.source
     c.as_str-text.result.now maker.text.now c.as_str-text.ensures.same option targets
     (subst (λ (list : List OptionTarget). (its : OptionTarget) → Contains list its
     ↔ IsOptionTarget c.args.options.now.files known maker.source c.as_str-text.result.now option its)
@@ -94,6 +100,6 @@ returns-clause-gaps c =
     let gap = c.in_ok-found.found.gap in
     on_ok_weaker c.add_gap.result
     (one-gap files known maker.source maker.text.now c.one_gap_an_option.ensures option gap
-    (its-gap c.args.options.now.files files c.requires.options known maker.source c.as_str-text.result.now maker.text.now
+    (its-gap c.args.options.now.files files c.requires.options.0 known maker.source c.as_str-text.result.now maker.text.now
     c.as_str-text.ensures.same option gap c.in_ok-found.ensures.gap) c.args.gaps.now.items c.add_gap.new.gaps.items)
     c.add_gap.ensures

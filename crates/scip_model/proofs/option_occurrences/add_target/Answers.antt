@@ -1,4 +1,4 @@
-use Rattle.std.proofs.Common.{◌≡◌, ◌∙◌, ◌<◌, sym, subst, List, ℕ, Option, Some, None, length}
+use Rattle.std.proofs.Common.{◌≡◌, ◌∙◌, sym, subst, List, ℕ, Option, Some, None}
 use Rattle.std.specs.Prelude.{MatchOption}
 use Rattle.std.specs.List.{All, slice_get}
 use Rattle.std.proofs.lemmas.Option.{same_Some}
@@ -6,17 +6,15 @@ use Rattle.std.proofs.lemmas.Result.{on_ok_weaker}
 use denote.Ref.{Bor}
 use Rattle.proto_lex.specs.Lexed.{IsPart}
 use Rattle.proto_options.specs.declared.names.OptionName.{OptionName}
-use Rattle.option_link.specs.Counted.{Counts}
 use Rattle.option_link.specs.declared.place.DeclaredPlace.{DeclaredPlace}
-use Rattle.proto_visibility.specs.Files.{File, HaveOrigins}
+use Rattle.proto_visibility.specs.Files.{HaveOrigins}
 use Rattle.proto_visibility.specs.declared.lookup.Entity.{Entity}
 use Rattle.scip_model.specs.Makers.{at_its_name}
 use Rattle.scip_model.specs.Tables.Listing.{each_from}
-use Rattle.scip_model.specs.Tables.OptionListing.{IsCountedPart, IsLastPart, OccursByTarget}
+use Rattle.scip_model.specs.Tables.OptionListing.{IsLastPart, IsLastPlace, OccursByTarget}
 use Rattle.scip_model.specs.Tables.Plans.{AreAdded}
 use Rattle.scip_model.proofs.OptionOccurLemmas.{added-planned, name-listed, name-occurs, none-by-target, planned-nothing}
-use Rattle.scip_model.proofs.OptionTargetLemmas.{counted-none, counted-some, declared-at, nameable-at, place-is}
-use Rattle.scip_model.proofs.OptionTargetLemmas.{place-within, stand-as}
+use Rattle.scip_model.proofs.OptionTargetLemmas.{declared-at, nameable-at, stand-as}
 use Rattle.scip_model.proofs.option_occurrences.add_target.Goals as goal
 
 -- the name that is found
@@ -27,11 +25,12 @@ found-name names number found name says is =
     subst (λ (o : Option (Bor OptionName)). MatchOption o (slice_get names number ≡ None)
     (λ n. slice_get names number ≡ Some n.now)) is says
 
-pub counted_place-requires : goal.counted_place-requires
-counted_place-requires c = λ at last.
-    subst (λ (files : List File). at.file < length files) (sym c.requires.options)
-    (place-within c.args.maker.now.package.now.files c.requires.is_target.parts at
-    (subst (λ (parts : List Entity). IsLastPart parts at) c.as_slice-parts.ensures last))
+-- the place that is found is that of the last part, where there is one
+last-at : (parts its : List Entity) (found : Option DeclaredPlace) (place : DeclaredPlace) → parts ≡ its
+    → IsLastPlace parts found → found ≡ Some place → IsLastPart its place
+last-at parts its found place same says is =
+    subst (λ (ps : List Entity). IsLastPart ps place) same
+    (subst (λ (o : Option DeclaredPlace). IsLastPlace parts o) is says)
 
 pub add_name-requires-clause-stand : goal.add_name-requires-clause-stand
 add_name-requires-clause-stand c =
@@ -48,13 +47,10 @@ add_name-requires-clause-stand c =
 pub add_name-requires-clause-nameable : goal.add_name-requires-clause-nameable
 add_name-requires-clause-nameable c = λ facts declared has index part there.
     let files = c.args.maker.now.package.now.files in
-    let parts = c.as_slice-parts.result.now in
-    let counted = counted-some c.args.options.now.files files c.requires.options parts c.counted_place.result
-    c.in-Some.place c.counted_place.ensures c.in-Some.is in
     nameable-at files c.requires.is_target.parts c.facts_occur_in_order.ensures.spelled
     (subst HaveOrigins c.linker.ensures.files c.facts_occur_in_order.ensures.origins) c.in-Some.place
-    (subst (λ (its : List Entity). IsLastPart its c.in-Some.place) c.as_slice-parts.ensures counted.last) facts declared
-    has index part
+    (last-at c.as_slice-parts.result.now c.args.target.now.parts c.last_place.result c.in-Some.place
+    c.as_slice-parts.ensures c.last_place.ensures c.in-Some.is) facts declared has index part
     (subst (λ (its : List Entity). slice_get its index ≡ Some part) c.as_slice-parts.ensures there)
 
 pub returns-in-Some-name_at-clause-added : goal.returns-in-Some-name_at-clause-added
@@ -74,10 +70,8 @@ returns-in-Some-name_at-clause-added c =
     let same : name.now ≡ is.name =
     same_Some name.now is.name (sym (found-name option.setting.names target.name_number c.name_at.result name
     c.name_at.ensures c.in-Some-name_at.is) ∙ is.names.numbered) in
-    let counted = counted-some c.args.options.now.files files c.requires.options parts c.counted_place.result place
-    c.counted_place.ensures c.in-Some.is in
-    let last = subst (λ (its : List Entity). IsLastPart its place) c.as_slice-parts.ensures counted.last in
-    let counts = subst (λ (at : DeclaredPlace). Counts files at.file) (place-is files is.parts place last) counted.counts in
+    let last = last-at parts target.parts c.last_place.result place c.as_slice-parts.ensures c.last_place.ensures
+    c.in-Some.is in
     let full_name = is.parts.declaration.full_name in
     on_ok_weaker c.add_name.result
     (λ added around.
@@ -86,7 +80,7 @@ returns-in-Some-name_at-clause-added c =
     target) old new
     (each_from (at_its_name maker full_name target.parts) 0 is.name.name.components)
     (name-occurs files known maker.choices.now maker.package.now.ids maker.encoding maker.source maker.text.now option
-    target is counts)
+    target is)
     (name-listed files known maker.choices.now maker.package.now.ids maker.encoding maker.source maker.text.now option
     target is)
     (subst (λ (its : OptionName). AreAdded around texts old new
@@ -106,6 +100,6 @@ returns-in-None-clause-added c = λ around.
     maker.text.now c.args.option.now target) c.args.plan.now.list.items
     (none-by-target files c.args.options.now.known maker.choices.now maker.package.now.ids maker.encoding maker.source
     maker.text.now c.args.option.now target
-    (λ at counted. counted-none c.args.options.now.files files c.requires.options c.as_slice-parts.result.now
-    c.counted_place.result c.counted_place.ensures c.in-None.is at
-    (subst (λ (its : List Entity). IsCountedPart files its at) (sym c.as_slice-parts.ensures) counted)))
+    (λ at last. (subst (λ (o : Option DeclaredPlace). IsLastPlace c.as_slice-parts.result.now o) c.in-None.is
+    c.last_place.ensures) at
+    (subst (λ (its : List Entity). IsLastPart its at) (sym c.as_slice-parts.ensures) last)))

@@ -3,7 +3,7 @@ use Rattle.std.specs.Prelude.{Contains}
 use Rattle.std.specs.List.Sorted.{IsStrictlyIncreasing}
 use Rattle.std.proofs.lemmas.List.Elements.{Contains-get_or}
 use Rattle.std.proofs.lemmas.Option.{slice_get-get_or}
-use Rattle.proto_visibility.specs.Sees.{IsReachable}
+use Rattle.proto_visibility.specs.Reaches.{IsReachable}
 use Rattle.scip_model.proofs.RepeatedLemmas.{none-taken, one-file-more, all-taken, nowhere-yet, is-there}
 use Rattle.scip_model.proofs.repeated.names_by_file.Goals as goal
 

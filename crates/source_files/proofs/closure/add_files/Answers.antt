@@ -1,6 +1,6 @@
 use Rattle.std.proofs.Common.{◌∙◌, List, ap, map, string_bytes, subst}
 use Rattle.source_files.specs.Closures.{AddsFresh, paths_in, wanted_of}
-use Rattle.source_files.specs.Seen.{Import, Told}
+use Rattle.source_files.specs.Reached.{Import, Told}
 use Rattle.source_files.proofs.ClosureLemmas.{goes_first, goes_last, goes_next}
 use Rattle.source_files.proofs.closure.add_files.Goals as goal
 

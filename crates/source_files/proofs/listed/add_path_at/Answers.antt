@@ -1,5 +1,5 @@
 use Rattle.std.proofs.Common.{◌∙◌, ◌++◌, ◌∷◌, [], List, ℕ, ap, append-nil, map, string_bytes, sym}
-use Rattle.source_files.specs.Seen.{path_of}
+use Rattle.source_files.specs.Reached.{path_of}
 use Rattle.source_files.specs.declared.looking.FoundFile.TheInside.{Inside}
 use Rattle.source_files.proofs.ListedLemmas.{path_elsewhere, path_here}
 use Rattle.source_files.proofs.listed.add_path_at.Goals as goal

@@ -1,12 +1,18 @@
-use Rattle.std.proofs.Common.{◌∙◌, ℕ, List, ap, map, string_bytes, subst}
+use Rattle.std.proofs.Common.{◌++◌, ◌∙◌, List, ap, map, string_bytes, subst, sym}
 use Rattle.std.proofs.lemmas.List.{map-append}
 use Rattle.std.proofs.lemmas.Result.{IfOk-weaker}
-use Rattle.source_files.specs.Walks.{AreOnce}
+use Rattle.source_files.specs.Unread.{Unread, at_path, unread_of}
+use Rattle.source_files.specs.Walks.{AreEachOnce}
 use Rattle.source_files.proofs.listed.all_unread.Goals as goal
 
 pub returns : goal.returns
 returns c =
-    IfOk-weaker c.once.result _ _ (λ unread are. subst
-    (λ (l : List (List ℕ)). AreOnce l (map string_bytes unread.items))
-    (ap (map string_bytes) c.in_ok-append.ensures.items
-    ∙ map-append string_bytes c.args.lost.items c.args.left.items) are) c.once.ensures
+    let lost = map string_bytes c.args.lost.now in
+    let left = map string_bytes c.args.left.now in
+    IfOk-weaker c.each_once.result _ _ (λ unread are. subst
+    (λ (l : List Unread). AreEachOnce l (map unread_of unread.items))
+    (c.in_ok-add_entries-2.ensures
+    ∙ (ap (λ (l : List Unread). l ++ map at_path left)
+    (c.in_ok-add_entries.ensures
+    ∙ ap (λ l. map unread_of l ++ map at_path lost) c.new-entries.ensures.items)
+    ∙ sym (map-append at_path lost left))) are) c.each_once.ensures

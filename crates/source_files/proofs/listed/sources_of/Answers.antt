@@ -1,7 +1,7 @@
 use Rattle.std.proofs.Common.{map, string_bytes, subst, sym}
 use Rattle.std.proofs.lemmas.Result.{err_from_is_err_and}
 use Rattle.source_files.specs.Closures.{Gathered}
-use Rattle.source_files.specs.Seen.{AreSources}
+use Rattle.source_files.specs.Reached.{AreSources}
 use Rattle.source_files.proofs.ListedLemmas.{not_found, sources_looked}
 use Rattle.source_files.proofs.listed.sources_of.Goals as goal
 

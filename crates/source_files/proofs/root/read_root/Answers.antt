@@ -1,5 +1,6 @@
 use Rattle.std.proofs.Common.{map, string_bytes, subst, sym}
 use Rattle.std.proofs.lemmas.Result.{err_from_is_err_and}
+use Rattle.source_files.specs.Unread.{unread_of}
 use Rattle.source_files.specs.WalkSteps.{AreListedBut}
 use Rattle.source_files.proofs.RootLemmas.{files_below, root_stops, unlisted_stops}
 use Rattle.source_files.proofs.root.read_root.Goals as goal
@@ -17,7 +18,7 @@ returns-in_err-read-clause-err g c =
     let lists = g.F.ReadFiles.lists c.args.readers.now.files.now in
     let leaves_out = c.args.readers.now.leaves_out in
     let root = c.args.root.now in
-    let unlisted = map string_bytes c.in_ok-paths.unlisted.items in
+    let unlisted = map unread_of c.in_ok-paths.unlisted.items in
     let listed = subst (λ l. AreListedBut (lists root) leaves_out (map string_bytes l) unlisted)
     (sym c.deref.ensures.value) c.in_ok-paths.ensures in
     rw (p.1, p.2) (root_stops lists (g.F.ReadFiles.gives c.args.readers.now.files.now) root leaves_out
@@ -28,7 +29,7 @@ returns-clause-ok g c =
     let lists = g.F.ReadFiles.lists c.args.readers.now.files.now in
     let leaves_out = c.args.readers.now.leaves_out in
     let root = c.args.root.now in
-    let unlisted = map string_bytes c.in_ok-paths.unlisted.items in
+    let unlisted = map unread_of c.in_ok-paths.unlisted.items in
     let listed = subst (λ l. AreListedBut (lists root) leaves_out (map string_bytes l) unlisted)
     (sym c.deref.ensures.value) c.in_ok-paths.ensures in
     files_below lists (g.F.ReadFiles.gives c.args.readers.now.files.now) root leaves_out

@@ -10,11 +10,8 @@ linked_with known files = record { files = files; known = known }
 pub invariant_of-result : goal.invariant_of-result
 invariant_of-result c = (
   record {
-    known = record {
-      each = c.requires.each ∙ sym (ap length (c.keep_messages.ensures ∙ (c.keep_types.ensures ∙ c.in_ok-table.ensures)));
-      in_order = c.requires.in_order;
-    };
-    counted = c.in_ok-counted.ensures;
+    each = c.requires.each ∙ sym (ap length (c.keep_messages.ensures ∙ (c.keep_types.ensures ∙ c.in_ok-table.ensures)));
+    in_order = c.requires.in_order;
   },
   c.in_ok-often.ensures,
 )

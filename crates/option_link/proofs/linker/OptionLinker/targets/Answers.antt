@@ -2,6 +2,7 @@ use Rattle.std.proofs.Common.{◌↔◌, ℕ, IfOk, MatchOption, ap, sym, subst}
 use Rattle.std.specs.List.{Contains}
 use Rattle.proto_options.specs.declared.names.OptionName.{OptionName}
 use Rattle.proto_visibility.specs.Files.{IsSource}
+use Rattle.proto_visibility.specs.Reaches.{LinksOptions}
 use Rattle.option_link.specs.declared.target.OptionTarget.{OptionTarget}
 use Rattle.option_link.specs.Linked.{LinkedOptions}
 use Rattle.option_link.specs.OptionNames.{IsGap, IsOptionTarget}
@@ -12,13 +13,18 @@ new-often-requires c = c.self.invariant.1
 
 pub invariant_of-files : goal.invariant_of-files
 invariant_of-files c = record {
-  in_order = c.self.invariant.0.known.in_order;
+  in_order = c.self.invariant.0.in_order;
   same_files = ap (λ (o : LinkedOptions). o.files) c.new-often.ensures;
   same_known = ap (λ (o : LinkedOptions). o.known) c.new-often.ensures;
 }
 
-pub all_targets-requires : goal.all_targets-requires
-all_targets-requires c = subst (λ (o : LinkedOptions). IsSource o.files c.args.file) (sym c.self.view_is) c.requires
+pub all_targets-requires-clause-source : goal.all_targets-requires-clause-source
+all_targets-requires-clause-source c =
+    subst (λ (o : LinkedOptions). IsSource o.files c.args.file) (sym c.self.view_is) c.requires.source
+
+pub all_targets-requires-clause-links : goal.all_targets-requires-clause-links
+all_targets-requires-clause-links c =
+    subst (λ (o : LinkedOptions). LinksOptions o.files c.args.file) (sym c.self.view_is) c.requires.links
 
 pub returns-clause-targets : goal.returns-clause-targets
 returns-clause-targets c =

@@ -33,7 +33,7 @@ returns-in-Some c =
     ((inner : Context) → Leads files known file text option number name outer inner → ⊥)
     (PlaceGives files known name.role place)
     (λ inner. Leads files known file text option number name outer inner × IsClear files inner)
-    (λ none inner leads. none inner (leads_named_to files known file text option name c.linked.ensures.own number
+    (λ none inner leads. none inner (leads_named_to files known file text option name number
     outer inner place names leads))
     (λ inner gives. (let leads = named names gives in
     (leads, leads_clear files known file text option name number outer inner leads))) told))

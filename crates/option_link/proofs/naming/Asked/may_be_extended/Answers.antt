@@ -1,4 +1,5 @@
 use Rattle.std.proofs.Common.{◌≡◌, ◌↔◌, IsTrue, IfOk, sym, subst}
+use Rattle.proto_visibility.specs.Files.{IsPresent}
 use Rattle.option_link.specs.Contexts.{IsMessageNamed, MayBeExtended, options_message}
 use Rattle.option_link.specs.Contexts.MayBeExtended.{options}
 use Rattle.option_link.specs.declared.contexts.Context.{Context}
@@ -16,10 +17,11 @@ returns-in-Options c =
     let message = c.args.message in
     subst (λ (context : Context). IfOk c.is_options_message.result (λ may. IsTrue may
     ↔ MayBeExtended files option context message)) (sym c.in-Options.is)
-    (ok_as c.is_options_message.result (λ is. IsTrue is ↔ IsMessageNamed files (options_message option.element) message)
+    (ok_as c.is_options_message.result
+    (λ is. IsTrue is ↔ (IsMessageNamed files (options_message option.element) message × IsPresent files message.file))
     (λ may. IsTrue may ↔ MayBeExtended files option inside.Options message)
-    (λ is iff. iff_as is (IsMessageNamed files (options_message option.element) message)
-    (MayBeExtended files option inside.Options message) (λ its. options its)
+    (λ is iff. iff_as is (IsMessageNamed files (options_message option.element) message × IsPresent files message.file)
+    (MayBeExtended files option inside.Options message) (λ its. options its.0 its.1)
     (options_extended files option message) iff)
     c.is_options_message.ensures)
 

@@ -18,17 +18,17 @@ returns-in-Some c =
     let option = self.option.now in
     let name = c.args.name.now in
     let inner = c.in-Some.inner in
-    ok_as c.needs_none_in.result (λ is. IsTrue is ↔ NeedsNoneIn files text option name inner)
+    ok_as c.needs_none_in.result (λ is. IsTrue is ↔ NeedsNoneIn files file text option name inner)
     (λ is. (number : ℕ) → MatchOption c.args.context
     ((other : Context) → StandsIn files known file text option number other → ⊥)
     (StandsIn files known file text option number)
     → IsTrue is ↔ NeedsNoTarget files known file text option number name)
     (λ is iff number told. (
     let stands = some_of _ _ _ c.in-Some.is told in
-    iff_as is (NeedsNoneIn files text option name inner) (NeedsNoTarget files known file text option number name)
+    iff_as is (NeedsNoneIn files file text option name inner) (NeedsNoTarget files known file text option number name)
     (needs_from files known file text option name number inner stands)
     (needs_to files known file text option name number inner (λ other its.
-    one_context files c.linked.ensures.origins c.linked.ensures.own known self.files.in_order
+    one_context files c.linked.ensures.origins known self.files.in_order
     c.facts_in_order.ensures.names c.facts_in_order.ensures.uses c.facts_are_filled.ensures.uses file text option
     number other inner its stands)) iff)) c.needs_none_in.ensures
 

@@ -9,49 +9,49 @@ use Rattle.option_link.proofs.naming.Asked.needs_none_in.Goals as goal
 pub returns-in-Scalar : goal.returns-in-Scalar
 returns-in-Scalar c =
     let self = c.args.self in
-    subst (λ (context : Context). IsTrue c.is_as.result ↔ NeedsNoneIn self.files.names.now self.text.now self.option.now
+    subst (λ (context : Context). IsTrue c.is_as.result ↔ NeedsNoneIn self.files.names.now self.file self.text.now self.option.now
     c.args.name.now context) (sym c.in-Scalar.is)
-    (scalar_iff self.files.names.now self.text.now self.option.now c.args.name.now c.is_as.result c.is_as.ensures)
+    (scalar_iff self.files.names.now self.file self.text.now self.option.now c.args.name.now c.is_as.result c.is_as.ensures)
 
 pub returns-in-Untold : goal.returns-in-Untold
 returns-in-Untold c =
     let self = c.args.self in
     subst (λ (context : Context). IsTrue c.is_none_of_extension.result ↔ NeedsNoneIn self.files.names.now
-    self.text.now self.option.now
+    self.file self.text.now self.option.now
     c.args.name.now context) (sym c.in-Untold.is)
-    (untold_iff self.files.names.now self.text.now self.option.now c.args.name.now c.is_none_of_extension.result
+    (untold_iff self.files.names.now self.file self.text.now self.option.now c.args.name.now c.is_none_of_extension.result
     c.is_none_of_extension.ensures)
 
 pub returns-in-Options : goal.returns-in-Options
 returns-in-Options c =
     let self = c.args.self in
     subst (λ (context : Context). IfOk c.is_without_message.result (λ is. IsTrue is ↔ NeedsNoneIn
-    self.files.names.now self.text.now
+    self.files.names.now self.file self.text.now
     self.option.now c.args.name.now context)) (sym c.in-Options.is)
-    (ok_as c.is_without_message.result (λ is. IsTrue is ↔ IsWithoutMessage self.files.names.now self.option.now
+    (ok_as c.is_without_message.result (λ is. IsTrue is ↔ IsWithoutMessage self.files.names.now self.file self.option.now
     c.args.name.now)
-    (λ is. IsTrue is ↔ NeedsNoneIn self.files.names.now self.text.now self.option.now c.args.name.now inside.Options)
-    (λ is iff. options_iff self.files.names.now self.text.now self.option.now c.args.name.now is iff)
+    (λ is. IsTrue is ↔ NeedsNoneIn self.files.names.now self.file self.text.now self.option.now c.args.name.now inside.Options)
+    (λ is iff. options_iff self.files.names.now self.file self.text.now self.option.now c.args.name.now is iff)
     c.is_without_message.ensures)
 
 pub returns-in-Entries : goal.returns-in-Entries
 returns-in-Entries c =
     let self = c.args.self in
-    subst (λ (context : Context). IsTrue c.is_entry.result ↔ NeedsNoneIn self.files.names.now self.text.now
+    subst (λ (context : Context). IsTrue c.is_entry.result ↔ NeedsNoneIn self.files.names.now self.file self.text.now
     self.option.now c.args.name.now context) (sym c.in-Entries.is)
-    (entries_iff self.files.names.now self.text.now self.option.now c.args.name.now c.in-Entries.field-0
+    (entries_iff self.files.names.now self.file self.text.now self.option.now c.args.name.now c.in-Entries.field-0
     c.is_entry.result c.is_entry.ensures)
 
 pub returns-in-Message : goal.returns-in-Message
 returns-in-Message c =
     let self = c.args.self in
-    never_so _ (subst (λ (context : Context). NeedsNoneIn self.files.names.now self.text.now self.option.now
+    never_so _ (subst (λ (context : Context). NeedsNoneIn self.files.names.now self.file self.text.now self.option.now
     c.args.name.now context → ⊥) (sym c.in-Message.is)
-    (message_none self.files.names.now self.text.now self.option.now c.args.name.now c.in-Message.field-0))
+    (message_none self.files.names.now self.file self.text.now self.option.now c.args.name.now c.in-Message.field-0))
 
 pub returns-in-Enum : goal.returns-in-Enum
 returns-in-Enum c =
     let self = c.args.self in
-    never_so _ (subst (λ (context : Context). NeedsNoneIn self.files.names.now self.text.now self.option.now
+    never_so _ (subst (λ (context : Context). NeedsNoneIn self.files.names.now self.file self.text.now self.option.now
     c.args.name.now context → ⊥) (sym c.in-Enum.is)
-    (enum_none self.files.names.now self.text.now self.option.now c.args.name.now c.in-Enum.field-0))
+    (enum_none self.files.names.now self.file self.text.now self.option.now c.args.name.now c.in-Enum.field-0))

@@ -11,7 +11,7 @@ pub member-requires : goal.member-requires
 member-requires c =
     let self = c.args.self in
     let is = some_of _ _ _ c.in-Some.is c.in_ok-message.ensures in
-    clear_message self.files.names.now (options_message self.option.now.element) c.in-Some.message is
+    clear_message self.files.names.now self.file (options_message self.option.now.element) c.in-Some.message is
 
 pub returns-in-Some : goal.returns-in-Some
 returns-in-Some c =
@@ -28,14 +28,14 @@ returns-in-Some c =
     (IsMemberOf files known message word braces))) c.is_in_braces-in_braces.ensures c.member.ensures in
     found_as c.member.result
     ((field : DeclaredPlace) → IsMemberOf files known message word (in_braces option number) field → ⊥)
-    ((field : DeclaredPlace) → IsFieldIn files known option number word inside.Options field → ⊥)
+    ((field : DeclaredPlace) → IsFieldIn files known self.file option number word inside.Options field → ⊥)
     (IsMemberOf files known message word (in_braces option number))
-    (IsFieldIn files known option number word inside.Options)
-    (λ none field it. none field (in_options files known option number word c.linked.ensures.own message is field it))
-    (λ field it. of_options files known option number word message is field it) of
+    (IsFieldIn files known self.file option number word inside.Options)
+    (λ none field it. none field (in_options files known self.file option number word message is field it))
+    (λ field it. of_options files known self.file option number word message is field it) of
 
 pub returns-in-None : goal.returns-in-None
 returns-in-None c =
     let self = c.args.self in
-    none_in_options self.files.names.now self.files.known.now self.option.now c.args.number c.args.word.now
+    none_in_options self.files.names.now self.files.known.now self.file self.option.now c.args.number c.args.word.now
     (none_of _ _ c.in-None.is c.in_ok-message.ensures)

@@ -8,6 +8,7 @@ use Rattle.option_link.specs.declared.contexts.Context.{Context}
 use Rattle.option_link.specs.declared.contexts.Context.TheVariants as inside
 use Rattle.option_link.proofs.LoopLemmas.{found_as}
 use Rattle.option_link.proofs.PlaceGivesLemmas.{field_given_to, extension_given_to, value_gives_none}
+use Rattle.option_link.proofs.PlaceGivesLemmas.{elsewhere_gives_none}
 use Rattle.option_link.proofs.naming.Asked.place_gives.Goals as goal
 
 pub returns-in-Field : goal.returns-in-Field
@@ -48,3 +49,9 @@ returns-in-Value c =
     subst (λ (acting : OptionRole). (inner : Context) → PlaceGives c.args.self.files.names.now
     c.args.self.files.known.now acting c.args.place inner → ⊥) (sym c.in-Value.is)
     (value_gives_none c.args.self.files.names.now c.args.self.files.known.now c.args.place)
+
+pub returns-in-Elsewhere : goal.returns-in-Elsewhere
+returns-in-Elsewhere c =
+    subst (λ (acting : OptionRole). (inner : Context) → PlaceGives c.args.self.files.names.now
+    c.args.self.files.known.now acting c.args.place inner → ⊥) (sym c.in-Elsewhere.is)
+    (elsewhere_gives_none c.args.self.files.names.now c.args.self.files.known.now c.args.place)

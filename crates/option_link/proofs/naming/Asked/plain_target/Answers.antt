@@ -25,10 +25,10 @@ returns-in-len1 c =
     let name = c.args.name.now in
     let are = one_of c.args.words.now _ (omega arith) in
     let has = subst (HasWords text name) are c.requires.words in
-    found_as c.own_field.result ((field : DeclaredPlace) → IsFieldIn files known option c.args.number _ c.args.context
+    found_as c.own_field.result ((field : DeclaredPlace) → IsFieldIn files known self.file option c.args.number _ c.args.context
     field → ⊥)
     ((at : DeclaredPlace) → NamesAs files known self.file text option c.args.number name role.Field c.args.context at
-    → ⊥) (IsFieldIn files known option c.args.number _ c.args.context)
+    → ⊥) (IsFieldIn files known self.file option c.args.number _ c.args.context)
     (NamesAs files known self.file text option c.args.number name role.Field c.args.context)
     (λ none at names. none at (plain_to files known self.file text option c.args.number name c.args.context _ has at
     names))

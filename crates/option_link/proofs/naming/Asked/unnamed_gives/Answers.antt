@@ -2,6 +2,7 @@ use Rattle.std.proofs.Common.{MatchOption, IfOk, sym, subst}
 use Rattle.option_link.specs.Found.{LeadsUnnamed}
 use Rattle.option_link.specs.declared.contexts.Context.{Context}
 use Rattle.option_link.proofs.GivingLemmas.{message_leads_none, enum_leads_none, scalar_leads_none}
+use Rattle.option_link.proofs.TableLemmas.{links_within}
 use Rattle.option_link.proofs.naming.Asked.unnamed_gives.Goals as goal
 
 pub returns-in-Entries : goal.returns-in-Entries
@@ -12,6 +13,9 @@ returns-in-Entries c =
     c.args.name.now context inner → ⊥)
     (LeadsUnnamed self.files.names.now self.files.known.now self.file self.text.now self.option.now c.args.name.now
     context))) (sym c.in-Entries.is) c.entry_gives.ensures
+
+pub untold_gives-requires : goal.untold_gives-requires
+untold_gives-requires c = links_within c.args.self.files.names.now c.args.self.file c.requires
 
 pub returns-in-Untold : goal.returns-in-Untold
 returns-in-Untold c =

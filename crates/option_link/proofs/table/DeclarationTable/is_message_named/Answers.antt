@@ -13,9 +13,9 @@ returns-then-not-is_same c =
 pub returns-else-not-is_same : goal.returns-else-not-is_same
 returns-else-not-is_same c =
     let only = c.in-Some.ensures in
-    named_by c.args.self.now c.args.name.now c.args.place c.is_present_message.result
+    named_by c.args.self.now c.args.name.now c.args.place c.is_message_at.result
     (subst (IsOnly c.args.self.now c.args.place.file c.args.name.now) (c.is_same.ensures.0 c.if-not-is_same.false) only)
-    c.is_present_message.ensures
+    c.is_message_at.ensures
 
 pub returns-in-None : goal.returns-in-None
 returns-in-None c =

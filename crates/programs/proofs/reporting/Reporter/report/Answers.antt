@@ -14,7 +14,7 @@ returns-in_ok-report_of_fault-in-Some-clause-made g c =
     let allows = IsChosenBy (option_map (λ f. string_bytes f.promise.0) run.choices.filter)
     (option_map (λ r. r.promise.0) run.choices.rule) in
     rw c.in-Some.is
-    (of_a_fault allows run.settings run.tree (map string_bytes run.unread.items)
+    (of_a_fault allows run.settings run.tree run.unread.items
     c.args.self.now.options.now.format c.args.status bytes fault told
     (rw c.as_slice.ensures c.in_ok-beside-in-Some.ensures.told) (rw c.in-Some.is at c.requires.status)
     c.in_ok-report_of_fault-in-Some.ensures)
@@ -23,7 +23,7 @@ pub returns-in_ok-report_of_index-in-None-clause-made : goal.returns-in_ok-repor
 returns-in_ok-report_of_index-in-None-clause-made g c =
     let run = c.args.self.now.run.now in
     let told = c.args.told.now in
-    let unread = map string_bytes run.unread.items in
+    let unread = run.unread.items in
     let bytes = c.in_ok-report_of_index-in-None.field-0.items in
     let made = c.in_ok-report_of_index-in-None.ensures in
     let allows = IsChosenBy (option_map (λ f. string_bytes f.promise.0) run.choices.filter)

@@ -1,4 +1,0 @@
--- messages in values
-pub mod Aggregates
--- options
-pub mod Settings

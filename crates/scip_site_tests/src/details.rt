@@ -61,41 +61,80 @@ static OTHERS: [(&[u8], &[u8]); 11] = [
     (b"\x12\x04\x12\x02\x38\x01", b"\x12\x00"),
 ];
 
-static REFUSALS: [Refusal<'static>; 14] = [
+/// The same of bytes with details that can't be read: they are as if they weren't there, and what is beside them stays.
+static UNREADABLE: [(&[u8], &[u8]); 17] = [
     // Enclosing ranges of two and of five numbers, and with a negative one.
     (
         b"\x12\x0B\x12\x09\x0A\x03\x01\x08\x09\x3A\x02\x01\x02",
-        WireFault::BadRange(2),
+        b"\x12\x07\x12\x05\x0A\x03\x01\x08\x09",
     ),
     (
         b"\x12\x0E\x12\x0C\x0A\x03\x01\x08\x09\x3A\x05\x01\x02\x03\x04\x05",
-        WireFault::BadRange(2),
+        b"\x12\x07\x12\x05\x0A\x03\x01\x08\x09",
     ),
     (
         b"\x12\x15\x12\x13\x0A\x03\x01\x08\x09\x3A\x0C\x01\x08\xFF\xFF\xFF\xFF\xFF\xFF\xFF\xFF\xFF\x01",
-        WireFault::BadRange(2),
+        b"\x12\x07\x12\x05\x0A\x03\x01\x08\x09",
     ),
     // A number of one that is cut off, and one that is too large.
     (
         b"\x12\x0B\x12\x09\x0A\x03\x01\x08\x09\x3A\x02\x01\x80",
-        WireFault::Truncated(9),
+        b"\x12\x07\x12\x05\x0A\x03\x01\x08\x09",
     ),
     (
         b"\x12\x13\x12\x11\x0A\x03\x01\x08\x09\x3A\x0A\xFF\xFF\xFF\xFF\xFF\xFF\xFF\xFF\xFF\x02",
-        WireFault::Varint(9),
+        b"\x12\x07\x12\x05\x0A\x03\x01\x08\x09",
+    ),
+    // A record of one that can't be read, beside one that can.
+    (
+        b"\x12\x13\x12\x11\x0A\x03\x01\x08\x09\x12\x01x\x3A\x02\x01\x80\x3A\x03\x01\x00\x0C",
+        b"\x12\x0F\x12\x0D\x0A\x03\x01\x08\x09\x12\x01x\x3A\x03\x01\x00\x0C",
     ),
     // Texts that aren't UTF-8: an enclosing symbol, a signature's language and its text.
-    (b"\x1A\x03\x42\x01\xFF", WireFault::Utf8(2)),
-    (b"\x12\x05\x1A\x03\x42\x01\xFF", WireFault::Utf8(4)),
-    (b"\x1A\x05\x3A\x03\x22\x01\xFF", WireFault::Utf8(4)),
-    (b"\x1A\x05\x3A\x03\x2A\x01\xFF", WireFault::Utf8(4)),
-    (b"\x12\x07\x1A\x05\x3A\x03\x2A\x01\xFF", WireFault::Utf8(6)),
-    // One in a signature that a later one replaces.
-    (b"\x1A\x07\x3A\x03\x2A\x01\xFF\x3A\x00", WireFault::Utf8(4)),
-    // Records inside a signature, and its own length.
-    (b"\x1A\x04\x3A\x02\x2A\x05", WireFault::Truncated(4)),
-    (b"\x1A\x03\x3A\x01\x0B", WireFault::Group(4)),
+    (b"\x1A\x03\x42\x01\xFF", b"\x1A\x00"),
+    (b"\x12\x05\x1A\x03\x42\x01\xFF", b"\x12\x02\x1A\x00"),
+    (b"\x1A\x05\x3A\x03\x22\x01\xFF", b"\x1A\x00"),
+    (b"\x1A\x05\x3A\x03\x2A\x01\xFF", b"\x1A\x00"),
+    (b"\x12\x07\x1A\x05\x3A\x03\x2A\x01\xFF", b"\x12\x02\x1A\x00"),
+    // An enclosing symbol and a signature stay where a later one can't be read.
+    (
+        b"\x1A\x0E\x0A\x01a\x28\x07\x42\x01\xFF\x42\x01e\x42\x01\xFF",
+        b"\x1A\x08\x0A\x01a\x28\x07\x42\x01e",
+    ),
+    (
+        b"\x1A\x0A\x3A\x03\x2A\x01t\x3A\x03\x2A\x01\xFF",
+        b"\x1A\x05\x3A\x03\x2A\x01t",
+    ),
+    // A later one counts.
+    (
+        b"\x1A\x0A\x3A\x03\x2A\x01\xFF\x3A\x03\x2A\x01t",
+        b"\x1A\x05\x3A\x03\x2A\x01t",
+    ),
+    // Signatures that are no documents: a record is cut off, or is a group.
+    (b"\x1A\x04\x3A\x02\x2A\x05", b"\x1A\x00"),
+    (b"\x1A\x03\x3A\x01\x0B", b"\x1A\x00"),
+    // The next entry stays.
+    (
+        b"\x1A\x03\x42\x01\xFF\x1A\x03\x0A\x01b",
+        b"\x1A\x00\x1A\x03\x0A\x01b",
+    ),
+];
+
+static REFUSALS: [Refusal<'static>; 6] = [
+    // Details that are cut off: a kind, a signature, an enclosing symbol, an enclosing range.
+    (b"\x1A\x02\x28\x80", WireFault::Truncated(2)),
     (b"\x1A\x02\x3A\x05", WireFault::Truncated(2)),
+    (b"\x1A\x03\x42\x05a", WireFault::Truncated(2)),
+    (
+        b"\x12\x09\x12\x07\x0A\x03\x01\x08\x09\x3A\x05",
+        WireFault::Truncated(9),
+    ),
+    // A group beside a signature, and a text beside one.
+    (b"\x1A\x03\x3A\x00\x0B", WireFault::Group(4)),
+    (
+        b"\x1A\x08\x3A\x03\x2A\x01\xFF\x32\x01\xFF",
+        WireFault::Utf8(7),
+    ),
 ];
 
 #[test]
@@ -104,6 +143,13 @@ fn each_detail_is_read_spelled_and_written(rt: HostRuntime) {
         see_row(&rt, rt.alloc(), bytes, bytes);
     }
     for (read, spelled) in &OTHERS {
+        see_row(&rt, rt.alloc(), *read, *spelled);
+    }
+}
+
+#[test]
+fn details_that_cannot_be_read_are_left_out(rt: HostRuntime) {
+    for (read, spelled) in &UNREADABLE {
         see_row(&rt, rt.alloc(), *read, *spelled);
     }
 }

@@ -1,7 +1,7 @@
 -- What the fields of a message do to one of its parts, against the values of a field number.
 use Rattle.std.proofs.Common.{◌≡◌, refl, ap, sym, ◌∙◌, subst, ℕ, ℤ, pos, true, false, List, [], ◌∷◌, ◌++◌, Option, Some}
 use Rattle.std.proofs.Common.{None}
-use Rattle.std.proofs.lemmas.Option.{same_Some}
+use Rattle.std.proofs.lemmas.Option.{same_Some, none-some}
 use Rattle.std.proofs.lemmas.Bool.{cond-true, cond-false}
 use Rattle.std.specs.Prelude.{nat_eq, is_some}
 use Rattle.std.specs.Str.{is_utf8}
@@ -10,10 +10,10 @@ use Rattle.std.proofs.lemmas.List.{append-nil, append_assoc}
 use Rattle.scip_wire.specs.Fields.{Payload, Varint, Fixed64, Delimited, Fixed32, Field}
 use Rattle.scip_wire.specs.Decodes.{payloads, Joined, none, next, last_or, IsOnly, absent, only, GivesText, text}
 use Rattle.scip_wire.specs.Decodes.{GivesNumber, signed, GivesMessage, message, Text, Texts, Number, OneMessage}
-use Rattle.scip_wire.specs.Decodes.{Messages, LastMessage}
+use Rattle.scip_wire.specs.Decodes.{GivesDetail, unreadable, Messages, LastDetail}
 use Rattle.scip_wire.specs.Reading.{◌>>=◌, changed, column, add_more, add_last, add_only, text_at, number_at}
 use Rattle.scip_wire.specs.Reading.{message_in, number_in, text_column, texts_column, number_column, only_column}
-use Rattle.scip_wire.specs.Reading.{messages_column, last_column}
+use Rattle.scip_wire.specs.Reading.{messages_column, readable, detail_in}
 use Rattle.scip_wire.proofs.ReadingOptionLemmas.{bind_some, bind_at, chosen, guard_some, split}
 
 -- ---- any column
@@ -112,7 +112,8 @@ only_exact (only {value = value} v) = (value ∷ [], v, refl)
 
 -- ---- the values of a payload
 
-text_in_found : (payload : Payload) (xs : List (List ℕ)) → message_in text_at payload ≡ Some xs → GivesText payload xs
+pub text_in_found : (payload : Payload) (xs : List (List ℕ)) → message_in text_at payload ≡ Some xs
+    → GivesText payload xs
 unfolding text_at
 text_in_found (Delimited bytes) xs e =
     let t = bind_some (text_at bytes) _ xs e in
@@ -123,7 +124,8 @@ text_in_found (Varint value) xs e = subst (GivesText (Varint value)) (same_Some 
 text_in_found (Fixed64 bytes) xs e = subst (GivesText (Fixed64 bytes)) (same_Some [] xs e) (GivesText.other_type refl)
 text_in_found (Fixed32 bytes) xs e = subst (GivesText (Fixed32 bytes)) (same_Some [] xs e) (GivesText.other_type refl)
 
-text_in_exact : (payload : Payload) (xs : List (List ℕ)) → GivesText payload xs → message_in text_at payload ≡ Some xs
+pub text_in_exact : (payload : Payload) (xs : List (List ℕ)) → GivesText payload xs
+    → message_in text_at payload ≡ Some xs
 unfolding text_at
 text_in_exact (Delimited bytes) xs (text u) = rw (is_utf8-from_IsUtf8 bytes u) refl
 text_in_exact (Delimited bytes) xs (GivesText.other_type h) = absurd (cc)
@@ -148,7 +150,7 @@ number_in_exact (Fixed64 bytes) xs (GivesNumber.other_type h) = refl
 number_in_exact (Fixed32 bytes) xs (GivesNumber.other_type h) = refl
 
 module _ {A : Type 0} (read : List ℕ → Option A) (IsMessage : List ℕ → A → Type 0) where
-  message_in_found : ((bytes : List ℕ) (x : A) → read bytes ≡ Some x → IsMessage bytes x)
+  pub message_in_found : ((bytes : List ℕ) (x : A) → read bytes ≡ Some x → IsMessage bytes x)
       → (payload : Payload) (xs : List A) → message_in read payload ≡ Some xs → GivesMessage IsMessage payload xs
   message_in_found found (Delimited bytes) xs e =
       let x = bind_some (read bytes) _ xs e in
@@ -160,7 +162,7 @@ module _ {A : Type 0} (read : List ℕ → Option A) (IsMessage : List ℕ → A
   message_in_found found (Fixed32 bytes) xs e =
       subst (GivesMessage IsMessage (Fixed32 bytes)) (same_Some [] xs e) (GivesMessage.other_type refl)
 
-  message_in_exact : ((bytes : List ℕ) (x : A) → IsMessage bytes x → read bytes ≡ Some x)
+  pub message_in_exact : ((bytes : List ℕ) (x : A) → IsMessage bytes x → read bytes ≡ Some x)
       → (payload : Payload) (xs : List A) → GivesMessage IsMessage payload xs → message_in read payload ≡ Some xs
   message_in_exact back (Delimited bytes) xs (message {value = x} h) = bind_at (read bytes) _ x (back bytes x h)
   message_in_exact back (Delimited bytes) xs (GivesMessage.other_type h) = absurd (cc)
@@ -224,6 +226,44 @@ module _ {A : Type 0} (values : Payload → Option (List A)) (Gives : Payload �
   repeated_exact fields xs h =
       column_exact add_more values Gives more_nothing more_joins found read number fields xs [] xs h refl
 
+-- a detail, which is left out where it can't be read
+module _ {A : Type 0} (values : Payload → Option (List A)) (Gives : Payload → List A → Type 0)
+    (found : (payload : Payload) (xs : List A) → values payload ≡ Some xs → Gives payload xs)
+    (read : (payload : Payload) (xs : List A) → Gives payload xs → values payload ≡ Some xs) where
+  detail_of : (payload : Payload) (o : Option (List A)) → values payload ≡ o → GivesDetail Gives payload (readable o)
+  detail_of payload None e = unreadable (λ xs given. none-some xs (sym e ∙ read payload xs given))
+  detail_of payload (Some xs) e = GivesDetail.readable (found payload xs e)
+
+  pub detail_found : (payload : Payload) (xs : List A) → detail_in values payload ≡ Some xs
+      → GivesDetail Gives payload xs
+  detail_found payload xs e =
+      subst (GivesDetail Gives payload) (same_Some (readable (values payload)) xs e)
+      (detail_of payload (values payload) refl)
+
+  none_readable : (payload : Payload) → ((xs : List A) → ¬ (Gives payload xs)) → (o : Option (List A))
+      → values payload ≡ o → readable o ≡ []
+  none_readable payload never None e = refl
+  none_readable payload never (Some xs) e = absurd (never xs (found payload xs e))
+
+  pub detail_exact : (payload : Payload) (xs : List A) → GivesDetail Gives payload xs
+      → detail_in values payload ≡ Some xs
+  detail_exact payload xs (GivesDetail.readable given) = ap (λ o. Some (readable o)) (read payload xs given)
+  detail_exact payload xs (unreadable never) = ap Some (none_readable payload never (values payload) refl)
+
+  pub last_detail_found : (number : ℕ) (fields : List Field) (first x : A)
+      → changed (column add_last (detail_in values) number) fields first ≡ Some x
+      → LastDetail Gives first number fields x
+  last_detail_found number fields first x e =
+      let c = column_found add_last (detail_in values) (GivesDetail Gives) last_nothing last_joins detail_found
+      detail_exact number fields first x e in
+      record { values = c.0; are_values = c.1; is_last = sym (same_Some (last_or first c.0) x c.2) }
+
+  pub last_detail_exact : (number : ℕ) (fields : List Field) (first x : A) → LastDetail Gives first number fields x
+      → changed (column add_last (detail_in values) number) fields first ≡ Some x
+  last_detail_exact number fields first x h =
+      column_exact add_last (detail_in values) (GivesDetail Gives) last_nothing last_joins detail_found detail_exact
+      number fields h.values first x h.are_values (ap Some (sym h.is_last))
+
 module _ {A : Type 0} (read : List ℕ → Option A) (IsMessage : List ℕ → A → Type 0)
     (found : (bytes : List ℕ) (x : A) → read bytes ≡ Some x → IsMessage bytes x)
     (back : (bytes : List ℕ) (x : A) → IsMessage bytes x → read bytes ≡ Some x) (number : ℕ) (fields : List Field) where
@@ -238,20 +278,6 @@ module _ {A : Type 0} (read : List ℕ → Option A) (IsMessage : List ℕ → A
   messages_exact xs h =
       repeated_exact (message_in read) (GivesMessage IsMessage) (message_in_found read IsMessage found)
       (message_in_exact read IsMessage back) number fields xs h
-
-  pub last_message_found : (first x : A) → changed (last_column read number) fields first ≡ Some x
-      → LastMessage IsMessage first number fields x
-  last_message_found first x e =
-      let c = column_found add_last (message_in read) (GivesMessage IsMessage) last_nothing last_joins
-      (message_in_found read IsMessage found) (message_in_exact read IsMessage back) number fields first x e in
-      record { values = c.0; are_values = c.1; is_last = sym (same_Some (last_or first c.0) x c.2) }
-
-  pub last_message_exact : (first x : A) → LastMessage IsMessage first number fields x
-      → changed (last_column read number) fields first ≡ Some x
-  last_message_exact first x h =
-      column_exact add_last (message_in read) (GivesMessage IsMessage) last_nothing last_joins
-      (message_in_found read IsMessage found)
-      (message_in_exact read IsMessage back) number fields h.values first x h.are_values (ap Some (sym h.is_last))
 
   pub one_message_found : (o : Option A) → changed (only_column read number) fields None ≡ Some o
       → OneMessage IsMessage number fields o

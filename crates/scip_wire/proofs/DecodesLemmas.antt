@@ -1,7 +1,7 @@
 -- What the reader computes of each message is what its bytes decode to, and nothing else is.
 use Rattle.std.proofs.Common.{◌≡◌, refl, ap, sym, ◌∙◌, subst, ℕ, zero, suc, ℤ, ◌<◌, List, [], ◌∷◌, ◌++◌, length, Option}
 use Rattle.std.proofs.Common.{Some, None, Result, Ok, Err, arith}
-use Rattle.std.proofs.lemmas.Option.{same_Some}
+use Rattle.std.proofs.lemmas.Option.{same_Some, none-some}
 use Rattle.std.specs.Prelude.{SomeIff, IfOk, MatchResult}
 use Rattle.std.proofs.lemmas.Bool.{le-leb, leb-true, cond-true, cond-false}
 use Rattle.std.proofs.lemmas.List.{append-nil, append_assoc}
@@ -19,12 +19,13 @@ use Rattle.scip_wire.specs.declared.wire_fault.WireFault.TheVariants.{Memory}
 use Rattle.scip_wire.specs.declared.read.occurrence.OccurrenceParts.{OccurrenceParts}
 use Rattle.scip_wire.specs.Fields.{Payload, Varint, Fixed64, Delimited, Fixed32, max_varint_len}
 use Rattle.scip_wire.specs.Decodes.{low_32_bits, ArePacked, GivesNumbers, one, packed, AreRangeNumbers, on_one_line}
-use Rattle.scip_wire.specs.Decodes.{over_lines, AreEnclosing, absent, enclosing, HoldsOccurrence, GivesOccurrence}
+use Rattle.scip_wire.specs.Decodes.{over_lines, AreNoRange, AreEnclosing, enclosing, HoldsOccurrence}
+use Rattle.scip_wire.specs.Decodes.{GivesText, GivesMessage, GivesDetail, GivesOccurrence}
 use Rattle.scip_wire.specs.Decodes.{occurrence, without_range, IsSignature, IsInfo}
 use Rattle.scip_wire.specs.Decodes.{IsToolInfo, IsMetadata, IsDocument, Decodes}
 use Rattle.scip_wire.specs.Gives.{Gives}
 use Rattle.scip_wire.specs.Reading.{◌>>=◌, fold_in, fold_at, field_at, varint_at, add_more, signature_step, signature_at}
-use Rattle.scip_wire.specs.Reading.{info_step, no_info, info_at, enclosing_at}
+use Rattle.scip_wire.specs.Reading.{info_step, no_info, info_at, text_at, message_in, detail_in}
 use Rattle.scip_wire.specs.Reading.{tool_info_step, no_tool_info, tool_info_at, metadata_step, no_metadata, metadata_at}
 use Rattle.scip_wire.specs.Reading.{packed_step, packed_at, numbers_in, fits, checked_range, range_at, occurrence_step}
 use Rattle.scip_wire.specs.Reading.{no_parts, parts_at, occurrence_of, occurrence_at, occurrence_in, document_step}
@@ -38,8 +39,9 @@ use Rattle.scip_wire.proofs.ReadingFoldLemmas.{parted_found, parted_exact}
 use Rattle.scip_wire.proofs.DecodesColumnLemmas.{text_found, text_exact, texts_found, texts_exact, number_found}
 use Rattle.scip_wire.proofs.DecodesColumnLemmas.{number_exact}
 use Rattle.scip_wire.proofs.DecodesColumnLemmas.{repeated_found, repeated_exact, messages_found, messages_exact}
-use Rattle.scip_wire.proofs.DecodesColumnLemmas.{one_message_found, one_message_exact, last_message_found}
-use Rattle.scip_wire.proofs.DecodesColumnLemmas.{last_message_exact}
+use Rattle.scip_wire.proofs.DecodesColumnLemmas.{one_message_found, one_message_exact, text_in_found, text_in_exact}
+use Rattle.scip_wire.proofs.DecodesColumnLemmas.{message_in_found, message_in_exact, detail_found, detail_exact}
+use Rattle.scip_wire.proofs.DecodesColumnLemmas.{last_detail_found, last_detail_exact}
 
 -- ---- signatures
 
@@ -62,6 +64,14 @@ signature_exact bytes s d =
     (parted_exact _ _ _ (λ t. refl) (λ s. refl) d.fields no_signature s
     (both_exact _ _ d.fields _ _ _ _ (text_exact 4 d.fields s.language d.language)
     (text_exact 5 d.fields s.text d.text)))
+
+signature_in_found : (payload : Payload) (xs : List Signature) → message_in signature_at payload ≡ Some xs
+    → GivesMessage IsSignature payload xs
+signature_in_found = message_in_found signature_at IsSignature signature_found
+
+signature_in_exact : (payload : Payload) (xs : List Signature) → GivesMessage IsSignature payload xs
+    → message_in signature_at payload ≡ Some xs
+signature_in_exact = message_in_exact signature_at IsSignature signature_exact
 
 -- a document without bytes is no signature
 pub none_of_nothing : (s : Signature) → IsSignature [] s → s ≡ no_signature
@@ -87,9 +97,10 @@ info_found bytes i e =
       documentation = texts_found 3 f.0 i.documentation b.0;
       kind = number_found 5 f.0 i.details.kind c.0;
       display_name = text_found 6 f.0 i.display_name g.0;
-      signature = last_message_found signature_at IsSignature signature_found signature_exact 7 f.0 no_signature
-          i.details.signature h.0;
-      enclosing_symbol = text_found 8 f.0 i.details.enclosing_symbol h.1;
+      signature = last_detail_found (message_in signature_at) (GivesMessage IsSignature) signature_in_found
+          signature_in_exact 7 f.0 no_signature i.details.signature h.0;
+      enclosing_symbol = last_detail_found (message_in text_at) GivesText text_in_found text_in_exact 8 f.0 []
+          i.details.enclosing_symbol h.1;
     }
 
 pub info_exact : (bytes : List ℕ) (i : SymbolInformation) → IsInfo bytes i → info_at bytes ≡ Some i
@@ -101,9 +112,10 @@ info_exact bytes i d =
     (both_exact _ _ d.fields _ _ _ _ (number_exact 5 d.fields i.details.kind d.kind)
     (both_exact _ _ d.fields _ _ _ _ (text_exact 6 d.fields i.display_name d.display_name)
     (both_exact _ _ d.fields _ _ _ _
-    (last_message_exact signature_at IsSignature signature_found signature_exact 7 d.fields no_signature
-    i.details.signature d.signature)
-    (text_exact 8 d.fields i.details.enclosing_symbol d.enclosing_symbol)))))))
+    (last_detail_exact (message_in signature_at) (GivesMessage IsSignature) signature_in_found signature_in_exact 7
+    d.fields no_signature i.details.signature d.signature)
+    (last_detail_exact (message_in text_at) GivesText text_in_found text_in_exact 8 d.fields []
+    i.details.enclosing_symbol d.enclosing_symbol)))))))
 
 -- ---- tool information
 
@@ -216,6 +228,15 @@ numbers_in_exact (Delimited bytes) xs (GivesNumbers.other_type h k) = absurd (cc
 numbers_in_exact (Fixed64 bytes) xs (GivesNumbers.other_type h k) = refl
 numbers_in_exact (Fixed32 bytes) xs (GivesNumbers.other_type h k) = refl
 
+-- those of an enclosing range, which is a detail
+around_in_found : (payload : Payload) (xs : List ℕ) → detail_in numbers_in payload ≡ Some xs
+    → GivesDetail GivesNumbers payload xs
+around_in_found = detail_found numbers_in GivesNumbers numbers_in_found numbers_in_exact
+
+around_in_exact : (payload : Payload) (xs : List ℕ) → GivesDetail GivesNumbers payload xs
+    → detail_in numbers_in payload ≡ Some xs
+around_in_exact = detail_exact numbers_in GivesNumbers numbers_in_found numbers_in_exact
+
 -- ---- occurrences
 
 checked_found : (r x : RangeNumbers) → checked_range r ≡ Some x → (r ≡ x) × IsRange r
@@ -275,7 +296,8 @@ parts_found bytes o e =
       range = repeated_found numbers_in GivesNumbers numbers_in_found numbers_in_exact 1 f.0 o.numbers a.0;
       symbol_text = text_found 2 f.0 o.symbol b.0;
       symbol_roles = number_found 3 f.0 o.symbol_roles c.0;
-      enclosing_range = repeated_found numbers_in GivesNumbers numbers_in_found numbers_in_exact 7 f.0 o.around c.1;
+      enclosing_range = repeated_found (detail_in numbers_in) (GivesDetail GivesNumbers) around_in_found
+          around_in_exact 7 f.0 o.around c.1;
     }
 
 pub parts_exact : (bytes ns symbol : List ℕ) (roles : ℤ) (around : List ℕ)
@@ -290,21 +312,31 @@ parts_exact bytes ns symbol roles around d =
     (repeated_exact numbers_in GivesNumbers numbers_in_found numbers_in_exact 1 d.fields ns d.range)
     (both_exact _ _ d.fields _ _ _ _ (text_exact 2 d.fields symbol d.symbol_text)
     (both_exact _ _ d.fields _ _ _ _ (number_exact 3 d.fields roles d.symbol_roles)
-    (repeated_exact numbers_in GivesNumbers numbers_in_found numbers_in_exact 7 d.fields around d.enclosing_range)))))
+    (repeated_exact (detail_in numbers_in) (GivesDetail GivesNumbers) around_in_found around_in_exact 7 d.fields around
+    d.enclosing_range)))))
 
-pub enclosing_found : (ns : List ℕ) (o : Option RangeNumbers) → enclosing_at ns ≡ Some o → AreEnclosing ns o
-unfolding enclosing_at
-enclosing_found [] o e = subst (AreEnclosing []) (same_Some None o e) absent
-enclosing_found (n ∷ ns) o e =
-    let r = bind_some (range_at (n ∷ ns)) _ o e in
-    let k = range_found (n ∷ ns) r.0 r.1 in
-    subst (AreEnclosing (n ∷ ns)) (same_Some (Some r.0) o r.2) (enclosing k.0 k.1)
+-- no range is made of numbers that aren't those of one
+pub no_range_found : (ns : List ℕ) → range_at ns ≡ None → AreNoRange ns
+no_range_found ns none range are is = none-some range (sym none ∙ range_exact are is)
 
-pub enclosing_exact : {ns : List ℕ} {o : Option RangeNumbers} → AreEnclosing ns o → enclosing_at ns ≡ Some o
-unfolding enclosing_at
-enclosing_exact absent = refl
-enclosing_exact (enclosing on_one_line h) = bind_at _ _ _ (range_exact on_one_line h)
-enclosing_exact (enclosing over_lines h) = bind_at _ _ _ (range_exact over_lines h)
+no_range_of : (ns : List ℕ) → AreNoRange ns → (o : Option RangeNumbers) → range_at ns ≡ o → o ≡ None
+no_range_of ns not_one None e = refl
+no_range_of ns not_one (Some r) e =
+    let k = range_found ns r e in
+    absurd (not_one r k.0 k.1)
+
+pub no_range_exact : (ns : List ℕ) → AreNoRange ns → range_at ns ≡ None
+no_range_exact ns not_one = no_range_of ns not_one (range_at ns) refl
+
+enclosing_of : (ns : List ℕ) (o : Option RangeNumbers) → range_at ns ≡ o → AreEnclosing ns o
+enclosing_of ns None e = AreEnclosing.absent (no_range_found ns e)
+enclosing_of ns (Some r) e =
+    let k = range_found ns r e in
+    enclosing k.0 k.1
+
+enclosing_exact : {ns : List ℕ} {o : Option RangeNumbers} → AreEnclosing ns o → range_at ns ≡ o
+enclosing_exact (AreEnclosing.absent {numbers = ns} not_one) = no_range_exact ns not_one
+enclosing_exact (enclosing are h) = range_exact are h
 
 occurrence_found_of : (bytes ns symbol : List ℕ) (roles : ℤ) (around : List ℕ) (os : List Occurrence)
     → HoldsOccurrence bytes ns symbol roles around
@@ -315,12 +347,11 @@ occurrence_found_of bytes [] symbol roles around os h e =
     subst (GivesOccurrence (Delimited bytes)) (same_Some [] os e) (without_range h)
 occurrence_found_of bytes (n ∷ ns) symbol roles around os h e =
     let r = bind_some (range_at (n ∷ ns)) _ os e in
-    let a = bind_some (enclosing_at around) _ os r.2 in
     let k = range_found (n ∷ ns) r.0 r.1 in
-    subst (GivesOccurrence (Delimited bytes)) (same_Some _ os a.2)
+    subst (GivesOccurrence (Delimited bytes)) (same_Some _ os r.2)
     (occurrence
-    {occurrence = record { range = r.0; symbol = symbol; symbol_roles = roles; enclosing_range = a.0 }} h k.0 k.1
-    (enclosing_found around a.0 a.1))
+    {occurrence = record { range = r.0; symbol = symbol; symbol_roles = roles; enclosing_range = range_at around }} h
+    k.0 k.1 (enclosing_of around (range_at around) refl))
 
 occurrence_in_found : (payload : Payload) (os : List Occurrence) → occurrence_in payload ≡ Some os
     → GivesOccurrence payload os
@@ -341,9 +372,9 @@ occurrence_exact_of : {ns around : List ℕ} {range : RangeNumbers} {o : Option 
     ≡ Some (record { range = range; symbol = symbol; symbol_roles = roles; enclosing_range = o } ∷ [])
 unfolding occurrence_of
 occurrence_exact_of symbol roles on_one_line h a =
-    bind_at _ _ _ (range_exact on_one_line h) ∙ bind_at _ _ _ (enclosing_exact a)
+    bind_at _ _ _ (range_exact on_one_line h) ∙ rw (enclosing_exact a) refl
 occurrence_exact_of symbol roles over_lines h a =
-    bind_at _ _ _ (range_exact over_lines h) ∙ bind_at _ _ _ (enclosing_exact a)
+    bind_at _ _ _ (range_exact over_lines h) ∙ rw (enclosing_exact a) refl
 
 occurrence_in_exact : (payload : Payload) (os : List Occurrence) → GivesOccurrence payload os
     → occurrence_in payload ≡ Some os

@@ -15,8 +15,12 @@ pub mod FieldLemmas
 pub mod FieldSpelledLemmas
 -- `Fails`: what a fault of an inner reading says of an outer one
 pub mod GivesLemmas
+-- Numbers of which the first four are by themselves
+pub mod NumberLemmas
 -- What is put into an output (`Outputs`): one text behind another, and what a list then has
 pub mod OutputLemmas
+-- Packed numbers: whether they can be read, and what is added then
+pub mod PackedLemmas
 -- An index in pieces: its spelling is theirs, and their lengths
 pub mod PieceLemmas
 -- `fold_at`, `both` and `parted`: over the items that a reader finds in bytes, and over parts of a whole

@@ -9,23 +9,23 @@ use Rattle.scip_wire.specs.declared.read.occurrence.OccurrenceParts.{OccurrenceP
 use Rattle.scip_wire.specs.declared.wire_fault.WireFault.{WireFault}
 use Rattle.scip_wire.specs.declared.wire_fault.WireFault.TheVariants.{Memory}
 use Rattle.scip_wire.specs.Fields.{Payload, Varint, Fixed64, Delimited, Fixed32, Field}
-use Rattle.scip_wire.specs.Decodes.{IsDocument}
+use Rattle.scip_wire.specs.Decodes.{AreNoRange, IsDocument}
 use Rattle.scip_wire.specs.Decodes.{Decodes}
 use Rattle.scip_wire.specs.Gives.{Gives, Blames}
 use Rattle.scip_wire.specs.Reading.{add_more, add_last, add_only, message_in, text_at, number_in}
 use Rattle.scip_wire.specs.Reading.{info_at}
 use Rattle.scip_wire.specs.Reading.{metadata_at, numbers_in, range_at, occurrence_step}
-use Rattle.scip_wire.specs.Reading.{no_parts, parts_at, enclosing_at, occurrence_of, occurrence_at, occurrence_in}
+use Rattle.scip_wire.specs.Reading.{no_parts, parts_at, occurrence_of, occurrence_at, occurrence_in}
 use Rattle.scip_wire.specs.Reading.{document_step}
 use Rattle.scip_wire.specs.Reading.{no_document, document_at, index_step, no_index, index_at}
 use Rattle.scip_wire.specs.Refused.{NoMessage, NoInfo}
-use Rattle.scip_wire.specs.Refused.{NoMetadata, OccurrenceRecords, HoldsRecords, AreNoRange}
+use Rattle.scip_wire.specs.Refused.{NoMetadata, OccurrenceRecords, HoldsRecords}
 use Rattle.scip_wire.specs.Refused.{NoOccurrenceField, NoOccurrence, NoDocumentField, NoDocument, NoIndexField, NoIndex}
 use Rattle.scip_wire.specs.Blamed.{inner_fault, info_fault}
 use Rattle.scip_wire.specs.Blamed.{metadata_fault, occurrence_step_fault, parts_fault}
 use Rattle.scip_wire.specs.Blamed.{occurrence_fault, document_step_fault, document_fault, index_step_fault, index_fault}
 use Rattle.scip_wire.proofs.ReadingOptionLemmas.{bind_none}
-use Rattle.scip_wire.proofs.DecodesLemmas.{range_found, range_exact, parts_found, parts_exact}
+use Rattle.scip_wire.proofs.DecodesLemmas.{no_range_found, no_range_exact, parts_found, parts_exact}
 use Rattle.scip_wire.proofs.DecodesLemmas.{document_found, document_exact, index_found, index_exact}
 use Rattle.scip_wire.proofs.RefusedVarintLemmas.{on_option}
 use Rattle.scip_wire.proofs.RefusedColumnLemmas.{both_none, left_none, right_none, parted_none, none_parted}
@@ -33,6 +33,7 @@ use Rattle.scip_wire.proofs.RefusedColumnLemmas.{column_none, none_in_column, va
 use Rattle.scip_wire.proofs.RefusedColumnLemmas.{inner_refused, only_refused, inner_blamed, only_blamed}
 use Rattle.scip_wire.proofs.RefusedPackedLemmas.{numbers_refused, numbers_blamed}
 use Rattle.scip_wire.proofs.RefusedLemmas.{message_refused, message_blamed, last_total, more_total, number_never}
+use Rattle.scip_wire.proofs.RefusedLemmas.{detail_never}
 use Rattle.scip_wire.proofs.RefusedLemmas.{at_number, info_refused, info_blamed, metadata_refused, metadata_blamed}
 
 -- ---- occurrences
@@ -55,9 +56,7 @@ parts_step_refused s start end f e =
             at_number P f 2 h.0 (NoOccurrenceField.symbol (text_refused start f.payload h.1))
         | inr last ↦ elim (both_none _ _ _ f last) [
           | inl roles ↦ absurd (number_never f.payload (values_none add_last number_in 3 last_total _ f roles).1)
-          | inr around ↦
-              let h = values_none add_more numbers_in 7 more_total _ f around in
-              at_number P f 7 h.0 (NoOccurrenceField.enclosing_range (numbers_refused start end s.around f.payload h.1))
+          | inr around ↦ absurd (detail_never add_more numbers_in 7 more_total _ f around)
         ]
       ]
     ]
@@ -75,12 +74,6 @@ parts_step_blamed s start end f fault (NoOccurrenceField.symbol n) =
     let t = text_blamed n in (
       none_parted _ _ _ s f (right_none _ _ _ f (left_none _ _ _ f
           (none_in_column add_last (message_in text_at) 2 _ f refl (bind_none _ _ t.0)))),
-      t.1,
-    )
-parts_step_blamed s start end f fault (NoOccurrenceField.enclosing_range n) =
-    let t = numbers_blamed start end s.around n in (
-      none_parted _ _ _ s f (right_none _ _ _ f (right_none _ _ _ f (right_none _ _ _ f
-          (none_in_column add_more numbers_in 7 _ f refl (bind_none _ _ t.0))))),
       t.1,
     )
 
@@ -103,57 +96,24 @@ parts_blamed =
     ))
     parts_step_blamed
 
--- no range is made of numbers that aren't those of one
-range_refused : (numbers : List ℕ) → 0 < length numbers → range_at numbers ≡ None → AreNoRange numbers
-range_refused numbers there e = (there, λ range are is. none-some range (sym e ∙ range_exact are is))
-
-range_blamed : (numbers : List ℕ) → AreNoRange numbers → range_at numbers ≡ None
-range_blamed numbers not_one =
-    on_option (range_at numbers) (λ none. none)
-    (λ range some.
-    let is = range_found numbers range some in
-    absurd (not_one.1 range is.0 is.1))
-
-enclosing_refused : (around : List ℕ) → enclosing_at around ≡ None → AreNoRange around
-unfolding enclosing_at
-enclosing_refused [] e = absurd (cc)
-enclosing_refused (n ∷ around) e =
-    range_refused (n ∷ around) (omega arith) (on_option (range_at (n ∷ around)) (λ none. none)
-    (λ range some. absurd (none-some _ (sym (rw some at e)))))
-
-enclosing_blamed : (around : List ℕ) → AreNoRange around → enclosing_at around ≡ None
-unfolding enclosing_at
-enclosing_blamed [] not_one = absurd (omega (arith, not_one.0))
-enclosing_blamed (n ∷ around) not_one = bind_none (range_at (n ∷ around)) _ (range_blamed (n ∷ around) not_one)
-
 -- no occurrence is made of such numbers
 no_range : (numbers symbol : List ℕ) (roles : ℤ) (around : List ℕ)
     → occurrence_of (record { numbers = numbers; symbol = symbol; symbol_roles = roles; around = around }) ≡ None
-    → (AreNoRange numbers) ⊎ ((0 < length numbers) × (AreNoRange around))
+    → (0 < length numbers) × AreNoRange numbers
 unfolding occurrence_of
 no_range [] symbol roles around e = absurd (cc)
-no_range (n ∷ numbers) symbol roles around e =
-    let P : Type 0 = (AreNoRange (n ∷ numbers)) ⊎ ((0 < length (n ∷ numbers)) × (AreNoRange around)) in
-    on_option (range_at (n ∷ numbers))
-    (λ none. let p : P = inl (range_refused (n ∷ numbers) (omega arith) none) in p)
-    (λ range some. on_option (enclosing_at around)
-    (λ none. let p : P = inr (omega arith, enclosing_refused around none) in p)
-    (λ o other. absurd (none-some _ (sym (rw (some, other) at e)))))
+no_range (n ∷ numbers) symbol roles around e = (
+  omega arith,
+  no_range_found (n ∷ numbers) (on_option (range_at (n ∷ numbers)) (λ none. none)
+      (λ range some. absurd (none-some _ (sym (rw some at e))))),
+)
 
-of_no_range : (numbers symbol : List ℕ) (roles : ℤ) (around : List ℕ) → AreNoRange numbers
+of_no_range : (numbers symbol : List ℕ) (roles : ℤ) (around : List ℕ) → 0 < length numbers → AreNoRange numbers
     → occurrence_of (record { numbers = numbers; symbol = symbol; symbol_roles = roles; around = around }) ≡ None
 unfolding occurrence_of
-of_no_range [] symbol roles around not_one = absurd (omega (arith, not_one.0))
-of_no_range (n ∷ numbers) symbol roles around not_one =
-    bind_none (range_at (n ∷ numbers)) _ (range_blamed (n ∷ numbers) not_one)
-
-of_no_enclosing : (numbers symbol : List ℕ) (roles : ℤ) (around : List ℕ) → 0 < length numbers → AreNoRange around
-    → occurrence_of (record { numbers = numbers; symbol = symbol; symbol_roles = roles; around = around }) ≡ None
-unfolding occurrence_of
-of_no_enclosing [] symbol roles around there not_one = absurd (omega (arith, there))
-of_no_enclosing (n ∷ numbers) symbol roles around there not_one =
-    on_option (range_at (n ∷ numbers)) (λ none. bind_none (range_at (n ∷ numbers)) _ none)
-    (λ range some. rw (some, enclosing_blamed around not_one) refl)
+of_no_range [] symbol roles around there not_one = absurd (omega (arith, there))
+of_no_range (n ∷ numbers) symbol roles around there not_one =
+    bind_none (range_at (n ∷ numbers)) _ (no_range_exact (n ∷ numbers) not_one)
 
 occurrence_refused : (start end : ℕ) (payload : Payload) → occurrence_in payload ≡ None
     → NoOccurrence start end payload (inner_fault (occurrence_fault start) end payload)
@@ -162,10 +122,8 @@ occurrence_refused start end (Delimited bytes) e =
     on_option (parts_at bytes)
     (λ none. rw none (NoOccurrence.inside (parts_refused end bytes none)))
     (λ o some.
-    elim (no_range o.numbers o.symbol o.symbol_roles o.around (rw some at e)) [
-      | inl not_one ↦ rw some (NoOccurrence.bad_range (parts_found bytes o some) not_one)
-      | inr not_one ↦ rw some (NoOccurrence.bad_enclosing_range (parts_found bytes o some) not_one.0 not_one.1)
-    ])
+    let not_one = no_range o.numbers o.symbol o.symbol_roles o.around (rw some at e) in
+    rw some (NoOccurrence.bad_range (parts_found bytes o some) not_one.0 not_one.1))
 occurrence_refused start end (Varint value) e = absurd (cc)
 occurrence_refused start end (Fixed64 bytes) e = absurd (cc)
 occurrence_refused start end (Fixed32 bytes) e = absurd (cc)
@@ -177,13 +135,9 @@ occurrence_blamed {end = end} (NoOccurrence.inside {bytes = bytes} {fault = faul
     let h = parts_blamed end bytes fault n in
     (rw h.0 refl, rw h.0 h.1)
 occurrence_blamed (NoOccurrence.bad_range {bytes = bytes} {numbers = ns} {symbol = symbol} {around = around}
-    {roles = roles} h not_one) =
-    let parts = parts_exact bytes ns symbol roles around h in
-    (rw parts (of_no_range ns symbol roles around not_one), rw parts refl)
-occurrence_blamed (NoOccurrence.bad_enclosing_range {bytes = bytes} {numbers = ns} {symbol = symbol} {around = around}
     {roles = roles} h there not_one) =
     let parts = parts_exact bytes ns symbol roles around h in
-    (rw parts (of_no_enclosing ns symbol roles around there not_one), rw parts refl)
+    (rw parts (of_no_range ns symbol roles around there not_one), rw parts refl)
 
 -- ---- documents
 

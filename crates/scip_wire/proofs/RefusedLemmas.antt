@@ -1,33 +1,32 @@
 -- The fault that is named is why bytes are no message: of any, of symbol information, tool information and metadata.
 use Rattle.std.proofs.Common.{◌≡◌, inl, inr, refl, sym, subst, ℕ, ◌-◌, List}
 use Rattle.std.proofs.Common.{length, Option, Some, None, arith}
+use Rattle.std.proofs.lemmas.Option.{none-some}
 use Rattle.scip_records.specs.declared.records.Metadata.{Metadata}
 use Rattle.scip_records.specs.declared.records.ToolInfo.{ToolInfo}
 use Rattle.scip_records.specs.declared.records.SymbolInformation.{SymbolInformation}
-use Rattle.scip_records.specs.declared.details.Signature.{Signature}
-use Rattle.scip_records.specs.Details.{no_signature}
 use Rattle.scip_wire.specs.declared.wire_fault.WireFault.{WireFault}
 use Rattle.scip_wire.specs.Fields.{Payload, Varint, Fixed64, Delimited, Fixed32, Field}
-use Rattle.scip_wire.specs.Decodes.{IsSignature, IsInfo, IsToolInfo, IsMetadata}
+use Rattle.scip_wire.specs.Decodes.{IsInfo, IsToolInfo, IsMetadata}
 use Rattle.scip_wire.specs.Reading.{field_at, fold_at, add_more, add_last, add_only, message_in, text_at, number_in}
-use Rattle.scip_wire.specs.Reading.{signature_step, signature_at, info_step, no_info, info_at, tool_info_step}
+use Rattle.scip_wire.specs.Reading.{signature_at, column, detail_in, info_step, no_info, info_at, tool_info_step}
 use Rattle.scip_wire.specs.Reading.{no_tool_info, tool_info_at}
 use Rattle.scip_wire.specs.Reading.{metadata_step, no_metadata, metadata_at}
-use Rattle.scip_wire.specs.Refused.{NoMessage, record_itself, what_it_holds, NoSignatureField, NoSignature}
+use Rattle.scip_wire.specs.Refused.{NoMessage, record_itself, what_it_holds}
 use Rattle.scip_wire.specs.Refused.{NoInfoField, NoInfo, NoToolInfoField, NoToolInfo, NoMetadataField, NoMetadata}
-use Rattle.scip_wire.specs.Blamed.{message_fault, text_fault, signature_fault, info_step_fault, info_fault}
+use Rattle.scip_wire.specs.Blamed.{message_fault, text_fault, info_fault}
 use Rattle.scip_wire.specs.Blamed.{tool_info_fault}
 use Rattle.scip_wire.specs.Blamed.{metadata_step_fault, metadata_fault}
 use Rattle.scip_wire.proofs.ReadingOptionLemmas.{bind_none}
 use Rattle.scip_wire.proofs.FieldLemmas.{field_found, field_exact, field_falls}
 use Rattle.scip_wire.proofs.ReadingFoldLemmas.{fields_found, fields_exact}
-use Rattle.scip_wire.proofs.DecodesLemmas.{signature_found, signature_exact, info_found, info_exact}
+use Rattle.scip_wire.proofs.DecodesLemmas.{info_found, info_exact}
 use Rattle.scip_wire.proofs.DecodesLemmas.{tool_info_found, tool_info_exact, metadata_found, metadata_exact}
 use Rattle.scip_wire.proofs.RefusedFieldLemmas.{field_refused, field_blamed}
 use Rattle.scip_wire.proofs.RefusedMessageLemmas.{stops, stopped}
 use Rattle.scip_wire.proofs.RefusedColumnLemmas.{both_none, left_none, right_none, parted_none, none_parted}
 use Rattle.scip_wire.proofs.RefusedColumnLemmas.{column_none, none_in_column, values_none, text_refused, text_blamed}
-use Rattle.scip_wire.proofs.RefusedColumnLemmas.{inner_refused, inner_blamed, only_refused, only_blamed}
+use Rattle.scip_wire.proofs.RefusedColumnLemmas.{only_refused, only_blamed}
 
 -- ---- any message
 
@@ -108,86 +107,41 @@ number_never (Delimited bytes) e = absurd (cc)
 number_never (Fixed64 bytes) e = absurd (cc)
 number_never (Fixed32 bytes) e = absurd (cc)
 
+-- a detail refuses nothing
+pub detail_never : {S A : Type 0} (add : S → List A → Option S) (values : Payload → Option (List A)) (number : ℕ)
+    → ((s : S) (xs : List A) → (t : S) × (add s xs ≡ Some t)) → (s : S) (f : Field)
+    → column add (detail_in values) number s f ≡ None → ⊥
+detail_never add values number total s f e =
+    none-some _ (sym (values_none add (detail_in values) number total s f e).1)
+
 -- what holds of a field with this number
 pub at_number : (P : Field → Type 0) (f : Field) (number : ℕ) → f.number ≡ number
     → P (record { number = number; payload = f.payload }) → P f
 at_number P f number e p = subst (λ n. P (record { number = n; payload = f.payload })) (sym e) p
 
--- ---- signatures
-
-signature_step_refused : (s : Signature) (start end : ℕ) (f : Field) → signature_step s f ≡ None
-    → NoSignatureField s start end f (text_fault s start end f)
-unfolding signature_step
-signature_step_refused s start end f e =
-    elim (both_none _ _ _ f (parted_none _ _ _ s f e)) [
-      | inl language ↦
-          let h = values_none add_last (message_in text_at) 4 last_total _ f language in
-          NoSignatureField.text (inl h.0) (text_refused start f.payload h.1)
-      | inr text ↦
-          let h = values_none add_last (message_in text_at) 5 last_total _ f text in
-          NoSignatureField.text (inr h.0) (text_refused start f.payload h.1)
-    ]
-
-signature_step_blamed : (s : Signature) (start end : ℕ) (f : Field) (fault : WireFault)
-    → NoSignatureField s start end f fault
-    → (signature_step s f ≡ None) × (fault ≡ text_fault s start end f)
-unfolding signature_step
-signature_step_blamed s start end f fault (NoSignatureField.text (inl e) n) =
-    let t = text_blamed n in (
-      none_parted _ _ _ s f (left_none _ _ _ f
-          (none_in_column add_last (message_in text_at) 4 _ f (rw e refl) (bind_none _ _ t.0))),
-      t.1,
-    )
-signature_step_blamed s start end f fault (NoSignatureField.text (inr e) n) =
-    let t = text_blamed n in (
-      none_parted _ _ _ s f (right_none _ _ _ f
-          (none_in_column add_last (message_in text_at) 5 _ f (rw e refl) (bind_none _ _ t.0))),
-      t.1,
-    )
-
-signature_refused : (end : ℕ) (bytes : List ℕ) → signature_at bytes ≡ None
-    → NoSignature end bytes (signature_fault end bytes)
-unfolding signature_at signature_fault
-signature_refused =
-    message_refused signature_step text_fault no_signature (λ s. s) IsSignature NoSignatureField signature_found
-    signature_step_refused
-
-signature_blamed : (end : ℕ) (bytes : List ℕ) (fault : WireFault) → NoSignature end bytes fault
-    → (signature_at bytes ≡ None) × (fault ≡ signature_fault end bytes)
-unfolding signature_at signature_fault
-signature_blamed =
-    message_blamed signature_step text_fault no_signature (λ s. s) IsSignature NoSignatureField
-    (λ bytes s is. (s, signature_exact bytes s is, refl)) signature_step_blamed
-
 -- ---- symbol information
 
 info_step_refused : (s : SymbolInformation) (start end : ℕ) (f : Field) → info_step s f ≡ None
-    → NoInfoField s start end f (info_step_fault s start end f)
-unfolding info_step info_step_fault
+    → NoInfoField s start end f (text_fault s start end f)
+unfolding info_step
 info_step_refused s start end f e =
-    let P : Field → Type 0 = λ f. NoInfoField s start end f (info_step_fault s start end f) in
     elim (both_none _ _ _ f (parted_none _ _ _ s f e)) [
       | inl symbol ↦
           let h = values_none add_last (message_in text_at) 1 last_total _ f symbol in
-          at_number P f 1 h.0 (NoInfoField.text (inl refl) (text_refused start f.payload h.1))
+          NoInfoField.text (inl h.0) (text_refused start f.payload h.1)
       | inr others ↦ elim (both_none _ _ _ f others) [
         | inl documentation ↦
             let h = values_none add_more (message_in text_at) 3 more_total _ f documentation in
-            at_number P f 3 h.0 (NoInfoField.text (inr (inl refl)) (text_refused start f.payload h.1))
+            NoInfoField.text (inr (inl h.0)) (text_refused start f.payload h.1)
         | inr more ↦ elim (both_none _ _ _ f more) [
           | inl kind ↦ absurd (number_never f.payload (values_none add_last number_in 5 last_total _ f kind).1)
           | inr shown ↦ elim (both_none _ _ _ f shown) [
             | inl display_name ↦
                 let h = values_none add_last (message_in text_at) 6 last_total _ f display_name in
-                at_number P f 6 h.0 (NoInfoField.text (inr (inr (inl refl))) (text_refused start f.payload h.1))
+                NoInfoField.text (inr (inr h.0)) (text_refused start f.payload h.1)
             | inr last ↦ elim (both_none _ _ _ f last) [
-              | inl signature ↦
-                  let h = values_none add_last (message_in signature_at) 7 last_total _ f signature in
-                  at_number P f 7 h.0 (NoInfoField.signature
-                  (inner_refused signature_at signature_fault NoSignature signature_refused end f.payload h.1))
-              | inr enclosing_symbol ↦
-                  let h = values_none add_last (message_in text_at) 8 last_total _ f enclosing_symbol in
-                  at_number P f 8 h.0 (NoInfoField.text (inr (inr (inr refl))) (text_refused start f.payload h.1))
+              | inl signature ↦ absurd (detail_never add_last (message_in signature_at) 7 last_total _ f signature)
+              | inr symbol ↦ absurd (detail_never add_last (message_in text_at) 8 last_total _ f symbol)
             ]
           ]
         ]
@@ -196,38 +150,24 @@ info_step_refused s start end f e =
 
 info_step_blamed : (s : SymbolInformation) (start end : ℕ) (f : Field) (fault : WireFault)
     → NoInfoField s start end f fault
-    → (info_step s f ≡ None) × (fault ≡ info_step_fault s start end f)
-unfolding info_step info_step_fault
+    → (info_step s f ≡ None) × (fault ≡ text_fault s start end f)
+unfolding info_step
 info_step_blamed s start end f fault (NoInfoField.text (inl e) n) =
     let t = text_blamed n in (
       none_parted _ _ _ s f (left_none _ _ _ f
           (none_in_column add_last (message_in text_at) 1 _ f (rw e refl) (bind_none _ _ t.0))),
-      rw e t.1,
+      t.1,
     )
 info_step_blamed s start end f fault (NoInfoField.text (inr (inl e)) n) =
     let t = text_blamed n in (
       none_parted _ _ _ s f (right_none _ _ _ f (left_none _ _ _ f
           (none_in_column add_more (message_in text_at) 3 _ f (rw e refl) (bind_none _ _ t.0)))),
-      rw e t.1,
+      t.1,
     )
-info_step_blamed s start end f fault (NoInfoField.text (inr (inr (inl e))) n) =
+info_step_blamed s start end f fault (NoInfoField.text (inr (inr e)) n) =
     let t = text_blamed n in (
       none_parted _ _ _ s f (right_none _ _ _ f (right_none _ _ _ f (right_none _ _ _ f (left_none _ _ _ f
           (none_in_column add_last (message_in text_at) 6 _ f (rw e refl) (bind_none _ _ t.0)))))),
-      rw e t.1,
-    )
-info_step_blamed s start end f fault (NoInfoField.text (inr (inr (inr e))) n) =
-    let t = text_blamed n in (
-      none_parted _ _ _ s f (right_none _ _ _ f (right_none _ _ _ f (right_none _ _ _ f (right_none _ _ _ f
-          (right_none _ _ _ f
-          (none_in_column add_last (message_in text_at) 8 _ f (rw e refl) (bind_none _ _ t.0))))))),
-      rw e t.1,
-    )
-info_step_blamed s start end f fault (NoInfoField.signature n) =
-    let t = inner_blamed signature_at signature_fault NoSignature signature_blamed n in (
-      none_parted _ _ _ s f (right_none _ _ _ f (right_none _ _ _ f (right_none _ _ _ f (right_none _ _ _ f
-          (left_none _ _ _ f
-          (none_in_column add_last (message_in signature_at) 7 _ f refl (bind_none _ _ t.0))))))),
       t.1,
     )
 
@@ -235,13 +175,13 @@ pub info_refused : (end : ℕ) (bytes : List ℕ) → info_at bytes ≡ None
     → NoInfo end bytes (info_fault end bytes)
 unfolding info_at info_fault
 info_refused =
-    message_refused info_step info_step_fault no_info (λ i. i) IsInfo NoInfoField info_found info_step_refused
+    message_refused info_step text_fault no_info (λ i. i) IsInfo NoInfoField info_found info_step_refused
 
 pub info_blamed : (end : ℕ) (bytes : List ℕ) (fault : WireFault) → NoInfo end bytes fault
     → (info_at bytes ≡ None) × (fault ≡ info_fault end bytes)
 unfolding info_at info_fault
 info_blamed =
-    message_blamed info_step info_step_fault no_info (λ i. i) IsInfo NoInfoField
+    message_blamed info_step text_fault no_info (λ i. i) IsInfo NoInfoField
     (λ bytes i is. (i, info_exact bytes i is, refl)) info_step_blamed
 
 -- ---- tool information

@@ -1,7 +1,7 @@
 -- A spelled message is what its bytes decode to.
 use Rattle.std.proofs.Common.{◌≡◌, ℕ, ◌^◌, ◌<◌, ◌≤◌, Bool, true, false, cond, nat_eq, List, [], ◌∷◌}
 use Rattle.std.proofs.Common.{◌++◌, map, length, Option, Some, None, refl, sym, ◌∙◌, subst, arith, append-nil}
-use Rattle.std.proofs.Common.{All, IfSome}
+use Rattle.std.proofs.Common.{All, IfSome, IsUtf8}
 use Rattle.std.specs.List.{flat_map}
 use Rattle.std.proofs.lemmas.List.Elements.{All-head, All-tail}
 use Rattle.scip_wire.proofs.SpellingRefLemmas.{info_signature}
@@ -19,10 +19,11 @@ use Rattle.scip_records.specs.declared.details.Signature.{Signature}
 use Rattle.scip_records.specs.Details.{no_signature}
 use Rattle.scip_wire.specs.Fields.{Payload, Delimited, Field}
 use Rattle.scip_wire.specs.Decodes.{payloads, Joined, none, next, absent, only, GivesMessage, message, OneMessage}
-use Rattle.scip_wire.specs.Decodes.{IsLast, IsSignature, IsInfo, IsToolInfo, IsMetadata, IsDocument, Decodes}
+use Rattle.scip_wire.specs.Decodes.{GivesText, GivesDetail, readable, IsLast}
+use Rattle.scip_wire.specs.Decodes.{IsSignature, IsInfo, IsToolInfo, IsMetadata, IsDocument, Decodes}
 use Rattle.scip_wire.specs.Decodes.{low_32_bits, ArePacked}
 use Rattle.scip_wire.specs.Decodes.{none as no_number, next as next_number, GivesNumbers, packed, AreRangeNumbers}
-use Rattle.scip_wire.specs.Decodes.{on_one_line, over_lines, AreEnclosing, absent as no_range, enclosing}
+use Rattle.scip_wire.specs.Decodes.{on_one_line, over_lines, AreNoRange, AreEnclosing, absent as no_range, enclosing}
 use Rattle.scip_wire.specs.Decodes.{HoldsOccurrence, GivesOccurrence, occurrence}
 use Rattle.scip_wire.specs.Spelling.{varint, bytes_of, bytes_field}
 use Rattle.scip_wire.specs.Spelling.{in_64_bits, repeated_message_fields, optional_message_fields}
@@ -33,7 +34,8 @@ use Rattle.scip_wire.specs.Saturated.{fields_len}
 use Rattle.scip_wire.specs.WellFormed.{IsFitOccurrence, IsFitSignature, IsFitInfo, IsFitDocument, IsFitToolInfo}
 use Rattle.scip_wire.specs.WellFormed.{IsFitMetadata}
 use Rattle.scip_wire.specs.WellFormed.{IsWellFormed}
-use Rattle.scip_wire.proofs.DecodesLemmas.{none_of_nothing}
+use Rattle.scip_wire.specs.Reading.{range_at}
+use Rattle.scip_wire.proofs.DecodesLemmas.{none_of_nothing, no_range_found}
 use Rattle.scip_wire.proofs.SaturatedLemmas.{fields_len_more, message_le}
 use Rattle.scip_wire.proofs.FieldSpelledLemmas.{varint_is, fields_are}
 use Rattle.scip_wire.proofs.DecodesSpelledPayloadLemmas.{same_text, same_texts, same_int, same_messages}
@@ -83,9 +85,21 @@ signature_is s fit short =
 
 -- one without bytes is the one that isn't there
 signature_given : (s : Signature) (bytes : List ℕ) → IsSignature bytes s
-    → IsLast no_signature (Joined (GivesMessage IsSignature) (text_payloads bytes)) s
+    → IsLast no_signature (Joined (GivesDetail (GivesMessage IsSignature)) (text_payloads bytes)) s
 signature_given s [] is = record { values = []; are_values = none; is_last = none_of_nothing s is }
-signature_given s (b ∷ bs) is = record { values = s ∷ []; are_values = next (message is) none; is_last = refl }
+signature_given s (b ∷ bs) is =
+    record { values = s ∷ []; are_values = next (readable (message is)) none; is_last = refl }
+
+-- what all can read can be read as details
+all_readable : {A : Type 0} {Gives : Payload → List A → Type 0} {ps : List Payload} {xs : List A}
+    → Joined Gives ps xs → Joined (GivesDetail Gives) ps xs
+all_readable none = none
+all_readable (next given others) = next (readable given) (all_readable others)
+
+enclosing_symbol_given : (t : List ℕ) → IsUtf8 t → IsLast [] (Joined (GivesDetail GivesText) (text_payloads t)) t
+enclosing_symbol_given t utf8 =
+    let given = text_given t utf8 in
+    record { values = given.values; are_values = all_readable given.are_values; is_last = given.is_last }
 
 pub info_is : (i : SymbolInformation) → IsFitInfo i → fields_len (info_fields i) < 2 ^ 64
     → IsInfo (bytes_of (info_fields i)) i
@@ -120,7 +134,8 @@ info_is i fit short =
       display_name = rw in_display_name (text_given i.display_name fit.display_name);
       signature = rw in_signature
           (signature_given signature inside (signature_is signature fit.details.signature (info_signature i short)));
-      enclosing_symbol = rw in_enclosing (text_given i.details.enclosing_symbol fit.details.enclosing_symbol);
+      enclosing_symbol = rw in_enclosing
+          (enclosing_symbol_given i.details.enclosing_symbol fit.details.enclosing_symbol);
     }
 
 tool_info_is : (t : ToolInfo) → IsFitToolInfo t → fields_len (tool_info_fields t) < 2 ^ 64
@@ -221,10 +236,15 @@ abbrev numbers_around : Option RangeNumbers → List ℕ
 numbers_around None = []
 numbers_around (Some r) = range_numbers r
 
+-- no numbers are no range
+none_of_no_numbers : AreNoRange []
+unfolding range_at
+none_of_no_numbers = no_range_found [] refl
+
 around_given : (o : Option RangeNumbers) → IfSome o IsRange
     → (Joined GivesNumbers (payloads 7 (optional_range_fields 7 o)) (numbers_around o))
     × (AreEnclosing (numbers_around o) o)
-around_given None fits = (none, no_range)
+around_given None fits = (none, no_range none_of_no_numbers)
 around_given (Some r) fits = (range_given r fits, enclosing (are_range r) fits)
 
 occurrence_is : (o : Occurrence) → IsFitOccurrence o → fields_len (occurrence_fields o) < 2 ^ 64
@@ -252,8 +272,8 @@ occurrence_is o fit short =
       range = subst (λ ps. Joined GivesNumbers ps numbers) (sym in_range) (range_given o.range fit.range);
       symbol_text = rw in_symbol (text_given o.symbol fit.symbol);
       symbol_roles = rw in_roles (int_given o.symbol_roles fit.symbol_roles);
-      enclosing_range = subst (λ ps. Joined GivesNumbers ps (numbers_around o.enclosing_range)) (sym in_around)
-          around.0;
+      enclosing_range = all_readable
+          (subst (λ ps. Joined GivesNumbers ps (numbers_around o.enclosing_range)) (sym in_around) around.0);
     } in
     occurrence holds (are_range o.range) fit.range around.1
 

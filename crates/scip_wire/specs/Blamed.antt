@@ -1,15 +1,13 @@
 -- The fault that the reader names, as functions on lists, where it refuses. Where it reads, they say Memory.
 use Rattle.std.specs.Prelude.{ℕ, zero, suc, ◌-◌, ◌%◌, ◌^◌, ◌||◌, cond, nat_eq, nat_lt, List, [], ◌∷◌, length}
 use Rattle.std.specs.Prelude.{Option, Some, None}
-use Rattle.scip_records.specs.Details.{no_signature}
 use Rattle.scip_records.specs.declared.records.Index.{Index}
-use Rattle.scip_records.specs.declared.records.SymbolInformation.{SymbolInformation}
 use Rattle.scip_records.specs.declared.records.Metadata.{Metadata}
 use Rattle.scip_records.specs.declared.records.Document.{Document}
 use Rattle.scip_wire.specs.declared.read.occurrence.OccurrenceParts.{OccurrenceParts}
 use Rattle.scip_wire.specs.Fields
 use Rattle.scip_wire.specs.Fields.{Payload, Fixed64, Delimited, Fixed32, Field, max_varint_len}
-use Rattle.scip_wire.specs.Reading.{varint_at, field_at, signature_step, info_step, no_info, tool_info_step}
+use Rattle.scip_wire.specs.Reading.{varint_at, field_at, info_step, no_info, tool_info_step}
 use Rattle.scip_wire.specs.Reading.{no_tool_info}
 use Rattle.scip_wire.specs.Reading.{metadata_step, no_metadata, packed_step, occurrence_step, no_parts, parts_at}
 use Rattle.scip_wire.specs.Reading.{document_step, no_document, index_step, no_index}
@@ -87,15 +85,8 @@ only_fault faults start end (Some earlier) payload = Repeated start
 abbrev pub text_fault : {S : Type 0} → S → (start end : ℕ) → Field → WireFault
 text_fault s start end field = Utf8 start
 
-unfoldable pub signature_fault : (end : ℕ) → List ℕ → WireFault
-signature_fault end bytes = message_fault signature_step text_fault end bytes no_signature
-
-unfoldable pub info_step_fault : SymbolInformation → (start end : ℕ) → Field → WireFault
-info_step_fault i start end field =
-    cond (nat_eq field.number 7) (inner_fault signature_fault end field.payload) (Utf8 start)
-
 unfoldable pub info_fault : (end : ℕ) → List ℕ → WireFault
-info_fault end bytes = message_fault info_step info_step_fault end bytes no_info
+info_fault end bytes = message_fault info_step text_fault end bytes no_info
 
 unfoldable pub tool_info_fault : (end : ℕ) → List ℕ → WireFault
 tool_info_fault end bytes = message_fault tool_info_step text_fault end bytes no_tool_info
@@ -119,8 +110,7 @@ packed_fault start bytes numbers =
 unfoldable pub occurrence_step_fault : OccurrenceParts → (start end : ℕ) → Field → WireFault
 occurrence_step_fault o start end field =
     cond (nat_eq field.number 1) (inner_fault (λ _ bytes. packed_fault start bytes o.numbers) end field.payload)
-    (cond (nat_eq field.number 7) (inner_fault (λ _ bytes. packed_fault start bytes o.around) end field.payload)
-    (Utf8 start))
+    (Utf8 start)
 
 unfoldable pub parts_fault : (end : ℕ) → List ℕ → WireFault
 parts_fault end bytes = message_fault occurrence_step occurrence_step_fault end bytes no_parts

@@ -70,6 +70,11 @@ pub data GivesMessage {A : Type 0} (IsMessage : List ℕ → A → Type 0) : Pay
   message : {bytes : List ℕ} {value : A} → IsMessage bytes value → GivesMessage IsMessage (Delimited bytes) (value ∷ [])
   other_type : {payload : Payload} → is_delimited payload ≡ false → GivesMessage IsMessage payload []
 
+-- A detail is what a payload gives otherwise; one that can't be read is as if it weren't there.
+pub data GivesDetail {A : Type 0} (Gives : Payload → List A → Type 0) (payload : Payload) : List A → Type 0 where
+  readable : {values : List A} → Gives payload values → GivesDetail Gives payload values
+  unreadable : ((values : List A) → ¬ (Gives payload values)) → GivesDetail Gives payload []
+
 -- a text, or a text of each record with this number
 abbrev pub Text : ℕ → List Field → List ℕ → Type 0
 Text number fields = IsLast [] (Joined GivesText (payloads number fields))
@@ -88,10 +93,9 @@ OneMessage IsMessage number fields = IsOnly (Joined (GivesMessage IsMessage) (pa
 abbrev pub Messages : {A : Type 0} → (List ℕ → A → Type 0) → ℕ → List Field → List A → Type 0
 Messages IsMessage number fields = Joined (GivesMessage IsMessage) (payloads number fields)
 
--- the last of the messages with this number, of which each is one, also one that a later one replaces
-abbrev pub LastMessage : {A : Type 0} → (List ℕ → A → Type 0) → A → ℕ → List Field → A → Type 0
-LastMessage IsMessage missing number fields =
-    IsLast missing (Joined (GivesMessage IsMessage) (payloads number fields))
+-- the last of the details with this number that can be read
+abbrev pub LastDetail : {A : Type 0} → (Payload → List A → Type 0) → A → ℕ → List Field → A → Type 0
+LastDetail Gives missing number fields = IsLast missing (Joined (GivesDetail Gives) (payloads number fields))
 
 -- ---- the messages of `scip.proto`
 
@@ -109,8 +113,8 @@ pub record IsInfo (bytes : List ℕ) (info : SymbolInformation) : Type 0 where
   pub documentation : Texts 3 fields info.documentation
   pub kind : Number 5 fields info.details.kind
   pub display_name : Text 6 fields info.display_name
-  pub signature : LastMessage IsSignature no_signature 7 fields info.details.signature
-  pub enclosing_symbol : Text 8 fields info.details.enclosing_symbol
+  pub signature : LastDetail (GivesMessage IsSignature) no_signature 7 fields info.details.signature
+  pub enclosing_symbol : LastDetail GivesText [] 8 fields info.details.enclosing_symbol
 
 pub record IsToolInfo (bytes : List ℕ) (tool_info : ToolInfo) : Type 0 where
   pub fields : List Field
@@ -153,9 +157,13 @@ pub data AreRangeNumbers : List ℕ → RangeNumbers → Type 0 where
       → AreRangeNumbers (line ∷ column ∷ end_line ∷ end_column ∷ [])
       (record { start_line = line; start_column = column; end_line = end_line; end_column = end_column })
 
--- `Occurrence.enclosing_range`: no numbers, or those of a range, none of them negative as an int32
+-- numbers that aren't those of a range, none of them negative as an int32
+abbrev pub AreNoRange : List ℕ → Type 0
+AreNoRange numbers = (range : RangeNumbers) → AreRangeNumbers numbers range → ¬ (IsRange range)
+
+-- `Occurrence.enclosing_range`: the range of these numbers, or none if they aren't those of one
 pub data AreEnclosing : List ℕ → Option RangeNumbers → Type 0 where
-  absent : AreEnclosing [] None
+  absent : {numbers : List ℕ} → AreNoRange numbers → AreEnclosing numbers None
   enclosing : {numbers : List ℕ} {range : RangeNumbers} → AreRangeNumbers numbers range → IsRange range
       → AreEnclosing numbers (Some range)
 
@@ -167,10 +175,9 @@ pub record HoldsOccurrence (bytes numbers symbol : List ℕ) (roles : ℤ) (arou
   pub range : Joined GivesNumbers (payloads 1 fields) numbers
   pub symbol_text : Text 2 fields symbol
   pub symbol_roles : Number 3 fields roles
-  pub enclosing_range : Joined GivesNumbers (payloads 7 fields) around
+  pub enclosing_range : Joined (GivesDetail GivesNumbers) (payloads 7 fields) around
 
--- An occurrence has three or four numbers, none of them negative as an int32; and as many of its enclosing range, or
--- none. One without range numbers is left out, whatever its enclosing range is.
+-- An occurrence has three or four numbers, none of them negative as an int32. One without range numbers is left out.
 pub data GivesOccurrence : Payload → List Occurrence → Type 0 where
   occurrence : {bytes numbers around : List ℕ} {occurrence : Occurrence}
       → HoldsOccurrence bytes numbers occurrence.symbol occurrence.symbol_roles around

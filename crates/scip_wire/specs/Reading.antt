@@ -1,6 +1,7 @@
 -- What the reader computes, as functions on lists: None if it refuses.
 use Rattle.std.specs.Prelude.{ℕ, ℤ, pos, zero, suc, ◌+◌, ◌-◌, ◌*◌, ◌/◌, ◌%◌, ◌^◌, Bool, cond, nat_eq, nat_lt, nat_le}
 use Rattle.std.specs.Prelude.{◌&&◌, List, [], ◌∷◌, ◌++◌, length, take, drop, Option, Some, None, option_and_then}
+use Rattle.std.specs.Prelude.{unwrap_or}
 use Rattle.std.specs.Int.{w32, cast_signed}
 use Rattle.std.specs.Str.{is_utf8}
 use Rattle.scip_records.specs.Range.{RangeNumbers, max_range_number}
@@ -113,6 +114,13 @@ number_in (Delimited _) = Some []
 number_in (Fixed64 _) = Some []
 number_in (Fixed32 _) = Some []
 
+-- those of a detail: none if they can't be read
+abbrev pub readable : {A : Type 0} → Option (List A) → List A
+readable values = unwrap_or values []
+
+abbrev pub detail_in : {A : Type 0} → (Payload → Option (List A)) → Payload → Option (List A)
+detail_in values payload = Some (readable (values payload))
+
 abbrev pub text_column : ℕ → List ℕ → Field → Option (List ℕ)
 text_column = column add_last (message_in text_at)
 
@@ -140,9 +148,13 @@ text_after = more_after text_at
 abbrev pub messages_column : {A : Type 0} → (List ℕ → Option A) → ℕ → List A → Field → Option (List A)
 messages_column read = column add_more (message_in read)
 
--- a message of which the last one counts
-abbrev pub last_column : {A : Type 0} → (List ℕ → Option A) → ℕ → A → Field → Option A
-last_column read = column add_last (message_in read)
+-- a detail of which the last one that can be read counts
+abbrev pub detail_column : {A : Type 0} → (List ℕ → Option A) → ℕ → A → Field → Option A
+detail_column read = column add_last (detail_in (message_in read))
+
+-- that detail after what came before
+abbrev pub detail_after : {A : Type 0} → (List ℕ → Option A) → A → List ℕ → A
+detail_after read earlier bytes = last_or earlier (readable (message_in read (Delimited bytes)))
 
 -- ---- the messages
 
@@ -178,14 +190,14 @@ info_step =
       details = record { kind = t.1.1.0; signature = t.1.1.1.1.0; enclosing_symbol = t.1.1.1.1.1 };
     })
     (both (text_column 1) (both (texts_column 3) (both (number_column 5)
-    (both (text_column 6) (both (last_column signature_at 7) (text_column 8))))))
+    (both (text_column 6) (both (detail_column signature_at 7) (detail_column text_at 8))))))
 
 -- details with a part in the place of an earlier one
-abbrev pub signature_after : Details → List ℕ → Option Details
-signature_after d bytes = signature_at bytes >>= λ s. Some (with_signature s d)
+abbrev pub signature_after : Details → List ℕ → Details
+signature_after d bytes = with_signature (detail_after signature_at d.signature bytes) d
 
-abbrev pub enclosing_symbol_after : Details → List ℕ → Option Details
-enclosing_symbol_after d bytes = text_at bytes >>= λ t. Some (with_enclosing_symbol t d)
+abbrev pub enclosing_symbol_after : Details → List ℕ → Details
+enclosing_symbol_after d bytes = with_enclosing_symbol (detail_after text_at d.enclosing_symbol bytes) d
 
 abbrev pub no_info : SymbolInformation
 no_info = record { symbol = []; documentation = []; display_name = []; details = no_details }
@@ -248,7 +260,7 @@ unfoldable pub occurrence_step : OccurrenceParts → Field → Option Occurrence
 occurrence_step = parted (λ o. (o.numbers, (o.symbol, (o.symbol_roles, o.around))))
     (λ t. record { numbers = t.0; symbol = t.1.0; symbol_roles = t.1.1.0; around = t.1.1.1 })
     (both (column add_more numbers_in 1)
-    (both (text_column 2) (both (number_column 3) (column add_more numbers_in 7))))
+    (both (text_column 2) (both (number_column 3) (column add_more (detail_in numbers_in) 7))))
 
 abbrev pub no_parts : OccurrenceParts
 no_parts = record { numbers = []; symbol = []; symbol_roles = pos 0; around = [] }
@@ -256,19 +268,14 @@ no_parts = record { numbers = []; symbol = []; symbol_roles = pos 0; around = []
 unfoldable pub parts_at : List ℕ → Option OccurrenceParts
 parts_at bytes = fold_at field_at occurrence_step bytes no_parts
 
--- the enclosing range of these numbers; none if there are none
-unfoldable pub enclosing_at : List ℕ → Option (Option RangeNumbers)
-enclosing_at [] = Some None
-enclosing_at (n ∷ ns) = range_at (n ∷ ns) >>= λ range. Some (Some range)
-
 -- none if it has no range numbers
 unfoldable pub occurrence_of : OccurrenceParts → Option (List Occurrence)
 occurrence_of parts = made parts.numbers parts.symbol parts.symbol_roles parts.around where
   made : List ℕ → List ℕ → ℤ → List ℕ → Option (List Occurrence)
   made [] symbol roles around = Some []
   made (n ∷ ns) symbol roles around =
-      range_at (n ∷ ns) >>= λ range. enclosing_at around >>= λ enclosing.
-      Some (record { range = range; symbol = symbol; symbol_roles = roles; enclosing_range = enclosing } ∷ [])
+      range_at (n ∷ ns) >>= λ range.
+      Some (record { range = range; symbol = symbol; symbol_roles = roles; enclosing_range = range_at around } ∷ [])
 
 unfoldable pub occurrence_at : List ℕ → Option (List Occurrence)
 occurrence_at bytes = parts_at bytes >>= occurrence_of

@@ -3,16 +3,14 @@
 use Rattle.std.specs.Prelude.{◌≡◌, ◌⊎◌, ℕ, suc, ℤ, ◌+◌, ◌-◌, ◌*◌, ◌^◌, ◌<◌, ◌≤◌, List, [], ◌∷◌, ◌++◌, length, Option}
 use Rattle.std.specs.Prelude.{Some, None}
 use Rattle.std.specs.Str.{IsUtf8}
-use Rattle.scip_records.specs.Range.{RangeNumbers, IsRange}
 use Rattle.scip_records.specs.declared.records.Index.{Index}
 use Rattle.scip_records.specs.declared.records.Metadata.{Metadata}
 use Rattle.scip_records.specs.declared.records.ToolInfo.{ToolInfo}
 use Rattle.scip_records.specs.declared.records.Document.{Document}
 use Rattle.scip_records.specs.declared.records.SymbolInformation.{SymbolInformation}
-use Rattle.scip_records.specs.declared.details.Signature.{Signature}
 use Rattle.scip_wire.specs.Fields.{Payload, Delimited, Field, IsVarint, IsField, max_varint_len, max_field_number}
-use Rattle.scip_wire.specs.Decodes.{ArePacked, AreRangeNumbers, HoldsOccurrence}
-use Rattle.scip_wire.specs.Decodes.{IsSignature, IsInfo, IsToolInfo, IsMetadata, IsDocument, Decodes}
+use Rattle.scip_wire.specs.Decodes.{ArePacked, AreNoRange, HoldsOccurrence}
+use Rattle.scip_wire.specs.Decodes.{IsInfo, IsToolInfo, IsMetadata, IsDocument, Decodes}
 use Rattle.scip_wire.specs.declared.wire_fault.WireFault.{WireFault}
 use Rattle.scip_wire.specs.declared.wire_fault.WireFault.TheVariants.{Truncated, Varint, FieldZero, Group, WireType}
 use Rattle.scip_wire.specs.declared.wire_fault.WireFault.TheVariants.{Repeated, Utf8, BadRange}
@@ -92,21 +90,12 @@ pub data NoOnly {A : Type 0} (Refused : (end : ℕ) → List ℕ → WireFault �
   inside : {bytes : List ℕ} {fault : WireFault} → Refused end bytes fault
       → NoOnly Refused start end None (Delimited bytes) fault
 
--- ---- the messages of `scip.proto`, by the numbers of their fields
-
-pub data NoSignatureField (earlier : Signature) (start end : ℕ) : Field → WireFault → Type 0 where
-  text : {number : ℕ} {payload : Payload} {fault : WireFault} → (number ≡ 4) ⊎ (number ≡ 5) → NoText start payload fault
-      → NoSignatureField earlier start end (record { number = number; payload = payload }) fault
-
-abbrev pub NoSignature : (end : ℕ) → List ℕ → WireFault → Type 0
-NoSignature = NoMessage IsSignature NoSignatureField
+-- ---- the messages of `scip.proto`, by the numbers of their fields; no detail refuses anything
 
 pub data NoInfoField (earlier : SymbolInformation) (start end : ℕ) : Field → WireFault → Type 0 where
   text : {number : ℕ} {payload : Payload} {fault : WireFault}
-      → (number ≡ 1) ⊎ ((number ≡ 3) ⊎ ((number ≡ 6) ⊎ (number ≡ 8))) → NoText start payload fault
+      → (number ≡ 1) ⊎ ((number ≡ 3) ⊎ (number ≡ 6)) → NoText start payload fault
       → NoInfoField earlier start end (record { number = number; payload = payload }) fault
-  signature : {payload : Payload} {fault : WireFault} → NoInner NoSignature end payload fault
-      → NoInfoField earlier start end (record { number = 7; payload = payload }) fault
 
 abbrev pub NoInfo : (end : ℕ) → List ℕ → WireFault → Type 0
 NoInfo = NoMessage IsInfo NoInfoField
@@ -140,24 +129,13 @@ pub data NoOccurrenceField (earlier : OccurrenceRecords) (start end : ℕ) : Fie
       → NoOccurrenceField earlier start end (record { number = 1; payload = payload }) fault
   symbol : {payload : Payload} {fault : WireFault} → NoText start payload fault
       → NoOccurrenceField earlier start end (record { number = 2; payload = payload }) fault
-  enclosing_range : {payload : Payload} {fault : WireFault} → NoNumbers start payload fault
-      → NoOccurrenceField earlier start end (record { number = 7; payload = payload }) fault
 
--- numbers, of which there are some, that aren't those of a range
-abbrev pub AreNoRange : List ℕ → Type 0
-AreNoRange numbers =
-    (0 < length numbers) × ((range : RangeNumbers) → AreRangeNumbers numbers range → ¬ (IsRange range))
-
--- Its records are looked at first. If all are read, the numbers of its range, if there are any, aren't those of a
--- range; or there are some, and those of its enclosing range aren't.
+-- Its records are looked at first. If all are read, there are numbers of its range, but not those of a range.
 pub data NoOccurrence (start end : ℕ) : Payload → WireFault → Type 0 where
   inside : {bytes : List ℕ} {fault : WireFault} → NoMessage HoldsRecords NoOccurrenceField end bytes fault
       → NoOccurrence start end (Delimited bytes) fault
   bad_range : {bytes numbers symbol around : List ℕ} {roles : ℤ} → HoldsOccurrence bytes numbers symbol roles around
-      → AreNoRange numbers → NoOccurrence start end (Delimited bytes) (BadRange start)
-  bad_enclosing_range : {bytes numbers symbol around : List ℕ} {roles : ℤ}
-      → HoldsOccurrence bytes numbers symbol roles around
-      → 0 < length numbers → AreNoRange around → NoOccurrence start end (Delimited bytes) (BadRange start)
+      → 0 < length numbers → AreNoRange numbers → NoOccurrence start end (Delimited bytes) (BadRange start)
 
 pub data NoDocumentField (earlier : Document) (start end : ℕ) : Field → WireFault → Type 0 where
   text : {number : ℕ} {payload : Payload} {fault : WireFault} → (number ≡ 1) ⊎ (number ≡ 4) → NoText start payload fault

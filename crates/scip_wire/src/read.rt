@@ -13,6 +13,7 @@ mod field;
 mod index;
 mod message;
 mod metadata;
+mod numbers;
 mod occurrence;
 mod range;
 mod signature;
@@ -30,6 +31,7 @@ use std::alloc::Global;
 ///
 /// Fields come in any order, unknown ones are skipped, and varints may be longer than needed. The last of a singular
 /// number or text wins. Absent numbers are 0 and absent texts empty. An occurrence without range numbers is left out.
+/// A detail (a signature, an enclosing symbol, an enclosing range) that can't be read is as if it weren't there.
 /// Symbols aren't checked against the grammar of symbols. The time is linear in the bytes, and no size is taken from
 /// a length that the bytes only claim.
 ///

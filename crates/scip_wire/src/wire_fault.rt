@@ -32,7 +32,7 @@ pub enum WireFault {
     /// A second metadata or a second tool information.
     #[error("a record that may come only once, at byte {0}")]
     Repeated(usize),
-    /// A known text isn't UTF-8.
+    /// A known text, which is no detail, isn't UTF-8.
     #[error("a text that isn't UTF-8, at byte {0}")]
     Utf8(usize),
     /// An occurrence with one, two or more than four range numbers, or with a negative one. The offset is that of the

@@ -6,7 +6,7 @@ ghost use Rattle.scip_wire.specs.Reading.{piece_at, payload_at, field_at};
 ghost use Rattle.scip_wire.specs.Blamed.{payload_fault, field_fault};
 ghost use Rattle.scip_wire.specs.Views.{payload_view, field_view};
 
-use crate::read::varint::{MAX_VARINT_LEN, varint_of};
+use crate::read::varint::one_varint_of;
 use crate::wire_fault::WireFault;
 
 /// What a record holds, by its wire type (Protocol Buffers encoding, Message Structure).
@@ -45,7 +45,7 @@ fn payload_of(bytes: &[u8], wire_type: u64, start: usize) -> Result<(Payload<'_>
 {
     match wire_type {
         0 => {
-            let (value, rest) = varint_of(bytes, MAX_VARINT_LEN, start)?;
+            let (value, rest) = one_varint_of(bytes, start)?;
             Ok((Payload::Varint(value), rest))
         }
         1 => {
@@ -53,7 +53,7 @@ fn payload_of(bytes: &[u8], wire_type: u64, start: usize) -> Result<(Payload<'_>
             Ok((Payload::Fixed64(inside), rest))
         }
         2 => {
-            let (size, rest) = varint_of(bytes, MAX_VARINT_LEN, start)?;
+            let (size, rest) = one_varint_of(bytes, start)?;
             let (inside, rest) = piece_of(rest, size, start)?;
             Ok((Payload::Delimited(inside), rest))
         }
@@ -73,7 +73,7 @@ pub fn read_field(bytes: &[u8], start: usize) -> Result<(Field<'_>, &[u8]), Wire
     ensures reads { Gives (λ x. (field_view x.0, x.1.now)) result (field_at bytes.now) }
     ensures fault { IfErr result (Names (field_at bytes.now) (field_fault start bytes.now)) }
 {
-    let (tag, rest) = varint_of(bytes, MAX_VARINT_LEN, start)?;
+    let (tag, rest) = one_varint_of(bytes, start)?;
     if tag >= 1 << 32 {
         return Err(WireFault::Varint(start));
     }

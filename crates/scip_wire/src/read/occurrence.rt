@@ -2,25 +2,26 @@
 
 ghost use Rattle.std.specs.Prelude.{◌≡◌, ◌≤◌, length};
 ghost use Rattle.scip_wire.specs.Gives.{Blames, Gives};
-ghost use Rattle.scip_wire.specs.Reading.{enclosing_at, occurrence_after};
+ghost use Rattle.scip_wire.specs.Reading.{occurrence_after};
 ghost use Rattle.scip_wire.specs.Blamed.{occurrence_fault};
 
 use crate::read::field::{Field, Payload};
 use crate::read::message::{Decode, read_message};
-use crate::read::range::{add_packed, range_of};
+use crate::read::numbers::Numbers;
+use crate::read::range::{add_packed, add_readable, range_in};
 use crate::read::text::{add, low_bits, number_of, take_text};
 use crate::wire_fault::WireFault;
 use basics::{OwnedText, Sequence};
-use scip_records::{Occurrence, Range};
+use scip_records::Occurrence;
 use std::alloc::Global;
 
 /// An occurrence's parts, before its ranges are made of their numbers.
 #[derive(Drop)]
 pub struct OccurrenceParts {
-    pub numbers: Sequence<u32>,
+    pub numbers: Numbers,
     pub symbol: OwnedText,
     pub symbol_roles: i32,
-    pub around: Sequence<u32>,
+    pub around: Numbers,
 }
 
 impl Decode for OccurrenceParts {
@@ -35,10 +36,10 @@ impl Decode for OccurrenceParts {
 
     fn empty(alloc: Global) -> OccurrenceParts {
         OccurrenceParts {
-            numbers: Sequence::new(alloc),
+            numbers: Numbers::new(alloc),
             symbol: OwnedText::new(alloc),
             symbol_roles: 0,
-            around: Sequence::new(alloc),
+            around: Numbers::new(alloc),
         }
     }
 
@@ -51,33 +52,17 @@ impl Decode for OccurrenceParts {
         _end: usize,
     ) -> Result<(), WireFault> {
         match (field.number, field.payload) {
-            (1, Payload::Varint(value)) => Ok(add(&mut self.numbers, low_bits(value))?),
+            (1, Payload::Varint(value)) => Ok(self.numbers.push(low_bits(value))?),
             (1, Payload::Delimited(bytes)) => add_packed(&mut self.numbers, bytes, start),
             (2, Payload::Delimited(bytes)) => take_text(alloc, &mut self.symbol, bytes, start),
             (3, Payload::Varint(value)) => {
                 self.symbol_roles = number_of(value);
                 Ok(())
             }
-            (7, Payload::Varint(value)) => Ok(add(&mut self.around, low_bits(value))?),
-            (7, Payload::Delimited(bytes)) => add_packed(&mut self.around, bytes, start),
+            (7, Payload::Varint(value)) => Ok(self.around.push(low_bits(value))?),
+            (7, Payload::Delimited(bytes)) => add_readable(&mut self.around, bytes),
             _ => Ok(()),
         }
-    }
-}
-
-/// The enclosing range of these numbers, of an occurrence whose record is at `start` in the input; none if there are no
-/// numbers.
-#[tactic(auto, unfolding(crate::specs::Reading::enclosing_at))]
-fn enclosing_range_of(numbers: &[u32], start: usize) -> Result<Option<Range>, WireFault>
-    ensures reads { Gives (λ range. range) result (enclosing_at numbers.now) }
-    ensures fault { Blames result (WireFault.BadRange start) }
-{
-    if numbers.is_empty() {
-        return Ok(None);
-    }
-    match range_of(numbers) {
-        Some(range) => Ok(Some(range)),
-        None => Err(WireFault::BadRange(start)),
     }
 }
 
@@ -102,19 +87,17 @@ pub fn add_occurrence(
         symbol_roles,
         around,
     } = parts;
-    let numbers = numbers.into_vec();
     if numbers.is_empty() {
         return Ok(());
     }
-    let Some(range) = range_of(&numbers) else {
+    let Some(range) = range_in(&numbers) else {
         return Err(WireFault::BadRange(start));
     };
-    let enclosing_range = enclosing_range_of(around.as_slice(), start)?;
     let occurrence = Occurrence {
         range,
         symbol,
         symbol_roles,
-        enclosing_range,
+        enclosing_range: range_in(&around),
     };
     Ok(add(occurrences, occurrence)?)
 }

@@ -29,16 +29,16 @@ varints-smaller c = varint_shortens c.varints.rest.now
 pub varints-preserved : goal.varints-preserved
 unfolding packed_step packed_fault
 varints-preserved c =
-    let added : packed_step c.varints.numbers c.in_ok-value.value ≡ Some c.add.new.list =
-    rw (c.in_ok-add.ensures, c.low_bits.ensures) refl in
+    let added : packed_step c.varints.numbers c.in_ok-value.value ≡ Some c.push.new.self =
+    rw (c.in_ok-push.ensures, c.low_bits.ensures) refl in
     record {
       reads = goes_on (varint_at max_varint_len) packed_step c.varints.rest.now c.varints.numbers c.is_empty.result
           c.is_empty.ensures varint_shortens c.varints-test.true
-          c.in_ok-value.value c.in_ok-value.after.now c.add.new.list c.in_ok-value.ensures.reads added
+          c.in_ok-value.value c.in_ok-value.after.now c.push.new.self c.in_ok-value.ensures.reads added
           ∙ c.varints.invariant.reads;
       blames = blame_goes_on (varint_at max_varint_len) (λ _. varint_fault c.args.start max_varint_len) packed_step
           no_step_fault 0 c.varints.rest.now c.varints.numbers c.is_empty.result c.is_empty.ensures c.varints-test.true
-          varint_shortens c.in_ok-value.value c.in_ok-value.after.now c.add.new.list c.in_ok-value.ensures.reads added
+          varint_shortens c.in_ok-value.value c.in_ok-value.after.now c.push.new.self c.in_ok-value.ensures.reads added
           ∙ c.varints.invariant.blames;
     }
 

@@ -5,12 +5,13 @@ ghost use Rattle.streams.specs.StdStreams.{inner_of, failures_of, reads_of, ends
 
 use crate::failed::Failed;
 use crate::feed::Feed;
+use crate::interrupted::{read_again, write_again};
 use crate::sink::Sink;
 use std::io::{Read, Write};
 
 /// A writer of `std::io` that is a [`Sink`], or a reader that is a [`Feed`].
 ///
-/// An interrupted call is a failure as any other, and isn't repeated.
+/// A call that a signal interrupts is made again.
 #[derive(Debug, Drop)]
 pub struct Std<T> {
     inner: T,
@@ -51,7 +52,7 @@ impl<W: Write> Sink for Std<W> {
     ghost failures = { failures_of };
 
     fn write(&mut self, bytes: &[u8]) -> Result<usize, Failed> {
-        let result = self.inner.write(bytes);
+        let result = write_again(&mut self.inner, bytes);
         let failed = match &result {
             Ok(count) => *count == 0 && !bytes.is_empty(),
             Err(_) => true,
@@ -79,7 +80,7 @@ impl<R: Read> Feed for Std<R> {
         if has_room {
             self.reads = self.reads.saturating_add(1);
         }
-        match self.inner.read(room) {
+        match read_again(&mut self.inner, room) {
             Ok(count) => {
                 if has_room && count == 0 {
                     self.ends = self.ends.saturating_add(1);

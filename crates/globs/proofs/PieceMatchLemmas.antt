@@ -16,14 +16,14 @@ last_piece {piece = piece} {part = part} (next_piece {piece = first} {pieces = p
     subst (Matches (first ∷ (pieces ++ piece ∷ []))) (sym (append_assoc taken rest part))
     (next_piece takes (last_piece matches last))
 
-record Next (piece : Piece) (pieces : List Piece) (text : List ℕ) : Type 0 where
-  part : List ℕ
-  rest : List ℕ
-  takes : Takes piece part
-  matches : Matches pieces rest
-  text_is : text ≡ part ++ rest
+pub record Next (piece : Piece) (pieces : List Piece) (text : List ℕ) : Type 0 where
+  pub part : List ℕ
+  pub rest : List ℕ
+  pub takes : Takes piece part
+  pub matches : Matches pieces rest
+  pub text_is : text ≡ part ++ rest
 
-next_of : {piece : Piece} {pieces : List Piece} {text : List ℕ} → Matches (piece ∷ pieces) text
+pub next_of : {piece : Piece} {pieces : List Piece} {text : List ℕ} → Matches (piece ∷ pieces) text
     → Next piece pieces text
 next_of (next_piece {part = part} {rest = rest} takes matches) =
     record { part = part; rest = rest; takes = takes; matches = matches; text_is = refl }
@@ -64,11 +64,11 @@ last_of (first ∷ pieces) matches =
 
 -- ---- the last byte
 
-abbrev first_of : List ℕ → ℕ
+abbrev pub first_of : List ℕ → ℕ
 first_of [] = 0
 first_of (byte ∷ bytes) = byte
 
-abbrev rest_of : List ℕ → List ℕ
+abbrev pub rest_of : List ℕ → List ℕ
 rest_of [] = []
 rest_of (byte ∷ bytes) = bytes
 

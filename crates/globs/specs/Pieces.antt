@@ -38,6 +38,10 @@ pub data Matches : List Piece → (text : List ℕ) → Type 0 where
   next_piece : {piece : Piece} {pieces : List Piece} {part rest : List ℕ} → Takes piece part → Matches pieces rest
       → Matches (piece ∷ pieces) (part ++ rest)
 
+-- a byte that means itself
+abbrev pub IsPlain : ℕ → Type 0
+IsPlain byte = (byte ≢ 42) × (byte ≢ 63)
+
 -- `*` and `?` are pieces, and any other byte is meant itself
 abbrev pub single : ℕ → Piece
 single byte = if nat_eq byte 42 then Run else if nat_eq byte 63 then One else Byte byte

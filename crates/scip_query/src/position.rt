@@ -1,6 +1,8 @@
 //! Positions of a document, and what is there.
 
 ghost use Rattle.std.specs.Prelude.{◌≡◌};
+ghost use Rattle.std.specs.Ordering.{nat_cmp, ordering_then};
+ghost use Rattle.std.specs.Cmp.Lexicographic.{slice_cmp};
 ghost use Rattle.scip_query.specs.Positions.{position_cmp, start_of, end_of, contains};
 ghost use Rattle.scip_query.specs.OccurrenceAt.{stands_at, innermost_cmp};
 
@@ -71,11 +73,25 @@ pub(crate) fn stands_at(occurrence: &Occurrence, position: Position) -> bool
     !occurrence.symbol.as_str().is_empty() && contains(occurrence.range, position)
 }
 
+/// By the earlier end, then the lesser symbol. Symbols are looked at only where the ends are alike.
+fn compare_ends(a: &Occurrence, b: &Occurrence) -> Ordering
+    ensures { result ≡ ordering_then (position_cmp (end_of a.now.range) (end_of b.now.range))
+        (slice_cmp nat_cmp a.now.symbol b.now.symbol) }
+{
+    match compare_positions(end_of(a.range), end_of(b.range)) {
+        Ordering::Less => Ordering::Less,
+        Ordering::Equal => a.symbol.as_str().cmp(b.symbol.as_str()),
+        Ordering::Greater => Ordering::Greater,
+    }
+}
+
 /// The innermost first: by the later start, then the earlier end, then the lesser symbol.
 pub(crate) fn compare_innermost(a: &Occurrence, b: &Occurrence) -> Ordering
     ensures { result ≡ innermost_cmp a.now b.now }
 {
-    let start = compare_positions(start_of(b.range), start_of(a.range));
-    let end = compare_positions(end_of(a.range), end_of(b.range));
-    start.then(end.then(a.symbol.as_str().cmp(b.symbol.as_str())))
+    match compare_positions(start_of(b.range), start_of(a.range)) {
+        Ordering::Less => Ordering::Less,
+        Ordering::Equal => compare_ends(a, b),
+        Ordering::Greater => Ordering::Greater,
+    }
 }

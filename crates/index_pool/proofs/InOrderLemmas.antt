@@ -1,13 +1,13 @@
 -- The results, put into the order of their inputs.
 use Rattle.std.proofs.Common.{◌≡◌, ◌≢◌, ℕ, zero, suc, ◌+◌, ◌<◌, ◌≤◌, true, false, List, [], ◌∷◌, ◌++◌, length, set}
-use Rattle.std.proofs.Common.{get_or, drop, slice_get, All, Option, Some, None, Result, Ok, Err, refl, sym, ap, ◌∙◌}
+use Rattle.std.proofs.Common.{get_or, drop, slice_get, Option, Some, None, Result, Ok, Err, refl, sym, ap, ◌∙◌}
 use Rattle.std.proofs.Common.{subst, append-nil, ◌⊎◌, inl, inr, ⊎_elim, add-one, ◌==◌, arith}
 use Rattle.std.specs.Prelude.{IfErr}
 use Rattle.std.proofs.Math.ListN.{length-set, length-drop}
 use Rattle.std.proofs.Math.Seq.{drop-cons}
 use Rattle.std.proofs.lemmas.List.{length_push, get_or-set_same, get_or-set_other, nil_from_length}
 use Rattle.std.proofs.lemmas.Option.{slice_get_within, get_or_from_slice_get, slice_get-get_or}
-use Rattle.std.proofs.lemmas.List.Elements.{All-get_or, All-head, All-tail, Contains-append_left, Contains-push}
+use Rattle.std.proofs.lemmas.List.Elements.{All-head, All-tail, Contains-append_left, Contains-push}
 use Rattle.std.proofs.lemmas.List.Sums.{sum_by_push, sum_by-cons}
 use Rattle.std.proofs.lemmas.Bool.Decides.{eqb_tells}
 use Rattle.basics.proofs.ListLemmas.{item_at as slice_get_some}
@@ -75,16 +75,6 @@ drop_front {X} xs i x ys e =
 pub record Placed {A : Type 0} (ys : List (Ran A)) (slots : List (Option A)) : Type 0 where
   pub held : (k : ℕ) (a : A) → slice_get slots k ≡ Some (Some a) → IsAmong ys k a
   pub lacking : (k : ℕ) → slice_get slots k ≡ Some None → weight (only_at k) ys ≡ 0
-
-pub placed_none : {A : Type 0} (slots : List (Option A)) → All (λ slot. slot ≡ None) slots → Placed [] slots
-placed_none {A} slots empty = record {
-  held = λ k a e. (
-      let within = slice_get_within slots k (Some a) e in
-      let at : get_or slots k (Some a) ≡ None = All-get_or (λ slot. slot ≡ None) slots k (Some a) within empty in
-      let is : get_or slots k (Some a) ≡ Some a = get_or_from_slice_get slots k (Some a) (Some a) e in
-      absurd (some_none a (sym is ∙ at)));
-  lacking = λ k e. refl;
-}
 
 pub placed_more : {A : Type 0} (ys : List (Ran A)) (slots : List (Option A)) (number : ℕ) (answer : A) → Placed ys slots
     → Placed (ys ++ (record { number = number; answer = answer }) ∷ []) (set slots number (Some answer))

@@ -4,12 +4,9 @@ use Rattle.index_pool.specs.declared.lanes.ends.LaneOwner.{LaneOwner}
 use Rattle.index_pool.specs.declared.lanes.ends.LaneThief.{LaneThief}
 use Rattle.index_pool.specs.Lane.{lane_view, lane_numbers, more_popped, more_stolen}
 use Rattle.index_pool.specs.LaneEnds.{owner_view, owner_deque, thief_view, thief_deque, tries_left}
-use Rattle.index_pool.specs.Tables.PhaseSteps.{AllBelow, FreshOwner, FreshThief, FreshLane, PoppedMore, StoleMore}
+use Rattle.index_pool.specs.Tables.PhaseSteps.{AllBelow, FreshOwner, FreshThief, PoppedMore, StoleMore}
 use Rattle.std.proofs.lemmas.List.Elements.{All-weaker}
 use Rattle.index_pool.proofs.LaneNumbersLemmas.{lane_below}
-
-pub popped_none : (o : LaneOwner) → PoppedMore o o
-popped_none o = let v = owner_view o in (refl, ap (λ b. lane_view b v.steals v.given v.popped v.stolen) o.owns)
 
 -- one more number was popped
 pub popped_one : (o p : LaneOwner) (k : ℕ) → owner_deque p ≡ owner_deque o
@@ -23,12 +20,6 @@ popped_one o p k deque e = let v = owner_view o in (
 pub popped_trans : (o p q : LaneOwner) → PoppedMore o p → PoppedMore p q → PoppedMore o q
 popped_trans o p q a b = let xs = (owner_view q).popped in
     (b.0 ∙ a.0, b.1 ∙ ap (λ v. lane_view true v.steals v.given xs v.stolen) a.1)
-
--- an owner that shows the same
-pub popped_same : (o p q : LaneOwner) → PoppedMore o p → owner_deque q ≡ owner_deque p → owner_view q ≡ owner_view p
-    → PoppedMore o q
-popped_same o p q a deque e = let v = owner_view o in
-    (deque ∙ a.0, e ∙ (a.1 ∙ ap (λ xs. lane_view true v.steals v.given xs v.stolen) (sym (ap (λ w. w.popped) e))))
 
 pub popped_given : (o p : LaneOwner) → PoppedMore o p → (owner_view p).given ≡ (owner_view o).given
 popped_given o p a = ap (λ v. v.given) a.1
@@ -49,22 +40,11 @@ stole_one t u k deque e = let v = thief_view t in (
       ∙ ap (λ xs. lane_view v.owns true v.given v.popped xs) (sym (ap (λ w. w.stolen) e))),
 )
 
-pub stole_trans : (t u w : LaneThief) → StoleMore t u → StoleMore u w → StoleMore t w
-stole_trans t u w a b = let xs = (thief_view w).stolen in
-    (b.0 ∙ a.0, b.1 ∙ ap (λ v. lane_view v.owns true v.given v.popped xs) a.1)
-
 -- a thief that shows the same
 pub stole_same : (t u w : LaneThief) → StoleMore t u → thief_deque w ≡ thief_deque u → thief_view w ≡ thief_view u
     → StoleMore t w
 stole_same t u w a deque e = let v = thief_view t in
     (deque ∙ a.0, e ∙ (a.1 ∙ ap (λ xs. lane_view v.owns true v.given v.popped xs) (sym (ap (λ x. x.stolen) e))))
-
-pub stole_given : (t u : LaneThief) → StoleMore t u → (thief_view u).given ≡ (thief_view t).given
-stole_given t u a = ap (λ v. v.given) a.1
-
-pub stole_below : (n : ℕ) (t u : LaneThief) → StoleMore t u → AllBelow n (thief_view t).given
-    → AllBelow n (thief_view u).given
-stole_below n t u a below = subst (AllBelow n) (sym (stole_given t u a)) below
 
 -- the ends of a lane from which nothing was taken yet
 pub fresh_owner : (n lanes w : ℕ) (o : LaneOwner) → owner_view o ≡ lane_view true false (lane_numbers n lanes w) [] []
@@ -83,7 +63,3 @@ fresh_thief n lanes w t e tries = let given = ap (λ v. v.given) e in (
 -- an end that is fresh for fewer numbers is so for more
 pub below_more_inputs : (n m : ℕ) (xs : List ℕ) → n ≤ m → AllBelow n xs → AllBelow m xs
 below_more_inputs n m xs le = All-weaker (λ k. k < n) (λ k. k < m) (λ k below. omega arith) xs
-
-pub fresh_for_more : (n m : ℕ) (l : LaneOwner × LaneThief) → n ≤ m → FreshLane n l → FreshLane m l
-fresh_for_more n m l le f =
-    ((f.0.0, below_more_inputs n m _ le f.0.1), (f.1.0, below_more_inputs n m _ le f.1.1, f.1.2), f.2)

@@ -12,13 +12,13 @@ use Rattle.index_pool.specs.declared.phase.worker.Done.{Done}
 use Rattle.index_pool.specs.declared.phase.levels.Gathered.{Gathered}
 use Rattle.index_pool.specs.declared.phase.worker.Ran.{Ran}
 use Rattle.index_pool.specs.declared.phase.fault.Stop.{Stop}
-use Rattle.index_pool.specs.declared.phase.fault.Stop.TheVariants.{Lanes, Spawn, Memory}
+use Rattle.index_pool.specs.declared.phase.fault.Stop.TheVariants.{Memory}
 use Rattle.std.proofs.lemmas.List.{length_push}
 use Rattle.std.specs.List.{range_with_len}
 use Rattle.index_pool.specs.Lane.{lane_numbers, lane_view}
 use Rattle.index_pool.specs.LaneEnds.{owner_view, owner_deque, thief_view, thief_deque}
 use Rattle.index_pool.specs.Tables.PhaseSteps.{AllBelow, FreshPost, FreshLane, AllGiven, weight, Worked, Gathers}
-use Rattle.index_pool.specs.Tables.PhaseSteps.{Settles, RanEach, MayStop, MayEnd}
+use Rattle.index_pool.specs.Tables.PhaseSteps.{Settles, RanEach, MayStop}
 use Rattle.index_pool.proofs.PhaseStepResultLemmas.{weight_append, each_once}
 use Rattle.index_pool.proofs.LaneEndsLemmas.{popped_given, popped_below}
 
@@ -84,31 +84,10 @@ alone_gathers gives post done w fed =
       weighed = λ h. (let a = w.weighed fed h in omega arith);
     }
 
--- what stops the rest may stop all
-pub may_stop_more : (post post' : Post) (lanes lanes' starts starts' : ℕ)
-    → owner_deque post.owner ≡ owner_deque post'.owner → lanes ≤ lanes' → (lanes ≤ starts → lanes' ≤ starts')
-    → (stop : Stop) → MayStop post lanes starts stop → MayStop post' lanes' starts' stop
-may_stop_more post post' lanes lanes' starts starts' same le enough Lanes a = a
-may_stop_more post post' lanes lanes' starts starts' same le enough (Spawn owner) a =
-    (omega (arith, le, a.0), a.1 ∙ same, a.2)
-may_stop_more post post' lanes lanes' starts starts' same le enough Memory a = enough a
-
 -- memory, once all were started
 pub memory_stops : (post : Post) (lanes starts : ℕ) → lanes ≤ starts → (stop : Stop) → stop ≡ Memory
     → MayStop post lanes starts stop
 memory_stops post lanes starts enough stop is = subst (MayStop post lanes starts) (sym is) enough
-
--- what stops the lanes ends the phase
-pub may_end : (post : Post) (lanes starts workers : ℕ) → lanes + 1 ≡ workers → (stop : Stop)
-    → MayStop post lanes starts stop → MayEnd workers starts stop
-may_end post lanes starts workers is Lanes a = tt
-may_end post lanes starts workers is (Spawn owner) a = omega (arith, is, a.0)
-may_end post lanes starts workers is Memory a = omega (arith, is, a)
-
--- memory ends the phase, once all were started
-pub memory_ends : (workers starts : ℕ) → workers ≤ starts + 1 → (stop : Stop) → stop ≡ Memory
-    → MayEnd workers starts stop
-memory_ends workers starts enough stop is = subst (MayEnd workers starts) (sym is) enough
 
 pub one_lane_more : (lanes rest : List (LaneOwner × LaneThief)) (last : LaneOwner × LaneThief)
     → lanes ≡ rest ++ option_to_list (Some last) → length lanes ≡ length rest + 1

@@ -2,9 +2,9 @@
 use Rattle.std.proofs.Common.{◌≡◌, ◌≢◌, ℕ, zero, suc, ◌+◌, ◌<◌, ◌≤◌, ◌==◌, List, [], ◌∷◌, ◌++◌, length, drop}
 use Rattle.std.proofs.Common.{slice_index, sum_by, cond, nat_lt, if◌then◌else◌, refl, sym, ap, ◌∙◌, add-zero, zero-add}
 use Rattle.std.proofs.Common.{add-one, arith}
-use Rattle.std.proofs.lemmas.List.Sums.{sum_by-cons, sum_by-append, sum_by_push}
+use Rattle.std.proofs.lemmas.List.Sums.{sum_by-cons, sum_by_push}
 use Rattle.std.proofs.lemmas.Bool.Decides.{nat_tests}
-use Rattle.std.specs.List.{range_with_len, flat_map}
+use Rattle.std.specs.List.{range_with_len}
 
 -- 1 at one number, 0 elsewhere
 abbrev pub only_at : ℕ → ℕ → ℕ
@@ -33,13 +33,6 @@ sum_only_at-range number (suc n) = ap (λ m. sum_by (only_at number) (range_with
     ∙ (sum_by-range_more (only_at number) n
     ∙ (ap (λ m. m + only_at number n) (sum_only_at-range number n)
     ∙ (one_more_below number n ∙ ap (λ m. if nat_lt number m then 1 else 0) (add-one n))))
-
-pub sum_by-flat_map : {X : Type 0} (h : ℕ → ℕ) (f : X → List ℕ) (xs : List X)
-    → sum_by h (flat_map f xs) ≡ sum_by (λ x. sum_by h (f x)) xs
-sum_by-flat_map h f [] = refl
-sum_by-flat_map h f (x ∷ xs) =
-    sum_by-append h (f x) (flat_map f xs)
-    ∙ (ap (λ m. sum_by h (f x) + m) (sum_by-flat_map h f xs) ∙ sym (sum_by-cons (λ y. sum_by h (f y)) x xs))
 
 -- each number weighs 1
 pub weighed_one : (xs : List ℕ) → sum_by (λ _. 1) xs ≡ length xs

@@ -25,9 +25,6 @@ EndAbove lexed line count =
     (λ (c : Comment). line ≤ line_of lexed.text c.span.end) lexed.comments count
 
 module _ (lexed : Lexed) (line : ℕ) where
-  abbrev comment_at : ℕ → Comment → Span
-  comment_at k d = (get_or lexed.comments k d).span
-
   abbrev Alone : Span → Type 0
   Alone span = StandsAlone lexed.text lexed.tokens span
 

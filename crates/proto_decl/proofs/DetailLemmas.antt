@@ -1,10 +1,9 @@
 -- How the tokens of a declaration are found, and which is the last.
-use Rattle.std.proofs.Common.{◌≡◌, ap, subst, sym, refl, ℕ, ◌+◌, ◌<◌, ◌≤◌, ◌⊎◌, inl, inr, Bool, true, false, cond}
+use Rattle.std.proofs.Common.{◌≡◌, ap, subst, sym, refl, ℕ, ◌+◌, ◌<◌, ◌≤◌, ◌⊎◌, inl, inr}
 use Rattle.std.proofs.Common.{◌∙◌, List, [], ◌∷◌, ◌++◌, length, get_or, take, arith}
-use Rattle.std.specs.List.{All, count_by, flat_map}
+use Rattle.std.specs.List.{All, flat_map}
 use Rattle.std.proofs.lemmas.List.{take_more}
 use Rattle.std.proofs.lemmas.List.Elements.{All-nil, All-cons}
-use Rattle.std.proofs.lemmas.List.Sums.{count_by_more_yes, count_by_more_no}
 use Rattle.std.proofs.lemmas.Option.{get_or_from_slice_get, slice_get-get_or, slice_get_within}
 use Rattle.proto_lex.specs.declared.span.Span.{Span}
 use Rattle.proto_lex.specs.declared.token.Token.{Token}
@@ -23,7 +22,6 @@ use Rattle.proto_decl.specs.Spans.{OfHeading, OfHead, OfPart}
 use Rattle.proto_decl.specs.Declares.{declared_by, group_field, in_head, inside_part, outline_at}
 use Rattle.proto_decl.specs.Walked.{in_item}
 use Rattle.proto_decl.specs.Signatures.{IsTokenAt, HasTokenAt}
-use Rattle.proto_decl.specs.Extents.{AreOpen}
 use Rattle.proto_decl.specs.declared.declaration.DeclarationKind.TheVariants as kind
 use Rattle.proto_decl.specs.declared.declaration.Outline.{Outline}
 use Rattle.proto_decl.specs.declared.surrounding.Surrounding.{Surrounding}
@@ -73,30 +71,6 @@ module _ (lexed : Lexed) (span : Span) (ordered : TokensInOrder lexed.tokens) (c
 
   pub token_at : HasTokenAt lexed span → IsTokenAt lexed span count
   token_at has = by_order has.0 has.1 (grind arith)
-
--- one more is counted if it passes the test
-count_by_test : {X : Type 0} (p : X → Bool) (xs : List X) (i : ℕ) (d : X) → i < length xs → (b : Bool)
-    → p (get_or xs i d) ≡ b → count_by p (take (i + 1) xs) ≡ count_by p (take i xs) + cond b 1 0
-count_by_test p xs i d within true is = count_by_more_yes p xs i d within is
-count_by_test p xs i d within false is = let same = count_by_more_no p xs i d within is in omega (arith, same)
-
-pub count_by_more : {X : Type 0} (p : X → Bool) (xs : List X) (i : ℕ) (d : X) → i < length xs
-    → count_by p (take (i + 1) xs) ≡ count_by p (take i xs) + cond (p (get_or xs i d)) 1 0
-count_by_more p xs i d within = count_by_test p xs i d within (p (get_or xs i d)) refl
-
--- all of the first tokens are open, so many, and so are they with one more
-open_upto : (tokens : List Token) (index : ℕ)
-    → ((fewer : ℕ) → 0 < fewer → fewer ≤ index → AreOpen (take fewer tokens)) → AreOpen (take (index + 1) tokens)
-    → (fewer : ℕ) → 0 < fewer → (fewer ≤ index) ⊎ (fewer ≡ index + 1) → AreOpen (take fewer tokens)
-open_upto tokens index before is_open fewer some (inl less) = before fewer some less
-open_upto tokens index before is_open fewer some (inr same) =
-    subst (λ (n : ℕ). AreOpen (take n tokens)) (sym same) is_open
-
-pub one_more_open : (tokens : List Token) (index : ℕ)
-    → ((fewer : ℕ) → 0 < fewer → fewer ≤ index → AreOpen (take fewer tokens)) → AreOpen (take (index + 1) tokens)
-    → (fewer : ℕ) → 0 < fewer → fewer ≤ index + 1 → AreOpen (take fewer tokens)
-one_more_open tokens index before is_open fewer some few =
-    open_upto tokens index before is_open fewer some (grind arith)
 
 -- one item more comes behind those before it
 pub one_taken : {X : Type 0} (xs : List X) (i : ℕ) (x : X) → i < length xs → x ≡ get_or xs i x

@@ -194,6 +194,3 @@ by_same false xs ys is = by (bytes_eq xs ys) refl
     by : (same : Bool) → bytes_eq xs ys ≡ same → false ≡ bytes_eq xs ys
     by true e = absurd (false≢true (is.1 ((bytes_decides xs ys).0 e)))
     by false e = sym e
-
-pub by_same_back : (answer : Bool) (xs ys : List ℕ) → (IsTrue answer ↔ (ys ≡ xs)) → answer ≡ bytes_eq xs ys
-by_same_back answer xs ys is = by_same answer xs ys (λ t. sym (is.0 t), λ e. is.1 (sym e))

@@ -130,10 +130,6 @@ names-push (step ∷ (next ∷ path)) x =
     ap (scoped step.kind step.name) (names-push (next ∷ path) x)
     ∙ scoped-append step.kind step.name (scopes (next ∷ path)) (x.name ∷ [])
 
-last-some : (path : List DeclarationStep) (x : DeclarationStep) → StepsAreSome (path ++ x ∷ []) → x.name ≢ []
-last-some [] x h = h.0
-last-some (step ∷ path) x h = last-some path x h.1
-
 -- the scope of what stands in a declaration
 abbrev scope_in : DeclarationKind → (scope name : List ℕ) → List ℕ
 scope_in kind.Message scope name = qualified scope name

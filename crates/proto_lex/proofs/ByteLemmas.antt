@@ -48,9 +48,6 @@ digit_nonzero b h n = grind (arith, nat_tests)
 pub octal_not_hex_mark : (b : ℕ) → is_octal_digit b ≡ true → is_hex_mark b ≡ false
 octal_not_hex_mark b h = grind (arith, nat_tests)
 
-pub digit_not_exponent_mark : (b : ℕ) → is_digit b ≡ true → is_exponent_mark b ≡ false
-digit_not_exponent_mark b h = grind (arith, nat_tests)
-
 pub exponent_mark_not_digit : (b : ℕ) → is_exponent_mark b ≡ true → is_digit b ≡ false
 exponent_mark_not_digit b h = grind (arith, nat_tests)
 

@@ -1,9 +1,9 @@
 use Rattle.std.proofs.Common.{◌≡◌, ℕ, ◌+◌, true, false, nat_eq, Some, List, [], ◌∷◌, ◌++◌, length, refl, sym, ◌∙◌, ap}
-use Rattle.std.proofs.Common.{arith, eqb-true, ◌-◌, ◌≤◌, None, drop, take}
+use Rattle.std.proofs.Common.{arith, eqb-true, ◌-◌, ◌≤◌}
 use Rattle.std.proofs.lemmas.Option.{same_Some}
 use Rattle.proto_lex.specs.Comments.{begins_close, EndsBlock, close, inside}
 use Rattle.proto_lex.specs.Reading.{block_at}
-use Rattle.proto_lex.proofs.ReadingTestLemmas.{chosen, both, after-cons}
+use Rattle.proto_lex.proofs.ReadingTestLemmas.{chosen, both}
 
 -- Block comments are read exactly as they are defined.
 
@@ -61,21 +61,3 @@ block_exact len rest (close) = refl
 block_exact len rest (inside {b} {others} c r) =
     let same : len + 1 + length others ≡ len + length (b ∷ others) = omega arith in
     rw (still_open b others rest r c) (block_exact (len + 1) rest r ∙ ap (λ n. Some n) same)
-
--- one more byte of a block comment
-pub block_step : (len : ℕ) (bytes : List ℕ) → 1 ≤ length bytes → begins_close bytes ≡ false
-    → block_at len bytes ≡ block_at (len + 1) (take (length bytes - 1) (drop 1 bytes))
-unfolding block_at
-block_step len [] h e = absurd (omega arith)
-block_step len (b ∷ others) h e = rw (after-cons b others, e) refl
-
--- its `*/` ends it
-pub block_close : (len : ℕ) (bytes : List ℕ) → begins_close bytes ≡ true → block_at len bytes ≡ Some (len + 2)
-unfolding block_at
-block_close len [] e = absurd cc
-block_close len (b ∷ others) e = rw e refl
-
-pub block_end : (len : ℕ) (bytes : List ℕ) → length bytes ≡ 0 → block_at len bytes ≡ None
-unfolding block_at
-block_end len [] e = refl
-block_end len (b ∷ others) e = absurd (omega arith)

@@ -1,15 +1,15 @@
 -- What messages say: as the code reads it, and that nothing is said where nothing begins so.
-use Rattle.std.proofs.Common.{◌≡◌, ℕ, zero, suc, ◌+◌, ◌<◌, ◌≤◌, ◌==◌, Bool, true, false, ◌||◌, List, [], ◌∷◌}
+use Rattle.std.proofs.Common.{◌≡◌, ℕ, zero, suc, ◌+◌, ◌<◌, ◌≤◌, ◌==◌, true, false, ◌||◌, List, [], ◌∷◌}
 use Rattle.std.proofs.Common.{◌++◌, map, drop, length, nat_lt, refl, sym, ◌∙◌, ap, arith}
 use Rattle.std.specs.List.{flat_map}
 use Rattle.std.specs.List.Sorted.{IsPartitionPoint}
 use Rattle.std.proofs.lemmas.Bool.Decides.{nat_tests}
-use Rattle.std.proofs.lemmas.List.{append_assoc, map-append}
+use Rattle.std.proofs.lemmas.List.{append_assoc}
 use Rattle.proto_lex.specs.declared.token.Token.{Token}
 use Rattle.proto_lex.proofs.ReadingTestLemmas.{chosen}
 use Rattle.proto_grammar.specs.Lexeme.{Lexeme, lexemes_of}
-use Rattle.proto_grammar.specs.Terminal.{others, is_end}
-use Rattle.proto_grammar.proofs.RepetitionStepLemmas.{either_true, both_false}
+use Rattle.proto_grammar.specs.Terminal.{others}
+use Rattle.proto_grammar.proofs.RepetitionStepLemmas.{both_false}
 use Rattle.proto_parse.specs.tree.Enum.{Enum}
 use Rattle.proto_parse.specs.tree.Service.{Service}
 use Rattle.proto_parse.specs.tree.Leaf.{Leaf as LeafTree}
@@ -28,44 +28,19 @@ use Rattle.proto_parse.specs.Parts.{of_items}
 use Rattle.proto_parse.specs.Parts.Part.{BlockPart, EnumPart, ValuePart, ServicePart, MethodPart}
 use Rattle.proto_options.specs.declared.messages.MessageFact.{MessageFact}
 use Rattle.proto_options.specs.Grammar.Passed.{braces_behind}
-use Rattle.proto_options.specs.Messages.{reserves_names, makes_message_set, is_of_names, names_ended, joined_behind}
-use Rattle.proto_options.specs.Messages.{names_in, clauses_at, clauses_direct, is_over, clauses_in, tokens_from}
+use Rattle.proto_options.specs.Messages.{reserves_names, makes_message_set}
+use Rattle.proto_options.specs.Messages.{clauses_at, clauses_direct, is_over, clauses_in, tokens_from}
 use Rattle.proto_options.specs.Messages.{behind_start, fact_of, said_in, said_by, says_any}
 
 -- ---- names in literals
 
-pub names_goes_on : (joined : List ℕ) (a : List Lexeme) → is_of_names a ≡ true
-    → names_in joined a ≡ names_ended joined a ++ names_in (joined_behind joined a) (others a)
-names_goes_on joined [] is = cc
-names_goes_on joined (t ∷ rest) is = rw is refl
-
-pub names_done : (joined : List ℕ) (a : List Lexeme) → is_of_names a ≡ false → names_in joined a ≡ joined ∷ []
-names_done joined [] is = refl
-names_done joined (t ∷ rest) is = rw is refl
-
 -- ---- clauses in braces
-
-pub clauses_goes_on : (open_braces : ℕ) (a : List Lexeme) → is_over open_braces a ≡ false
-    → clauses_in open_braces a
-    ≡ clauses_direct open_braces a ++ clauses_in (braces_behind a open_braces) (others a)
-clauses_goes_on open_braces [] further = cc
-clauses_goes_on open_braces (t ∷ rest) further = rw further refl
-
-pub clauses_done : (open_braces : ℕ) (a : List Lexeme) → is_over open_braces a ≡ true → clauses_in open_braces a ≡ []
-clauses_done open_braces [] over = refl
-clauses_done open_braces (t ∷ rest) over = rw over refl
 
 -- some tokens are left where braces aren't over
 pub some_left : (open_braces : ℕ) (a : List Lexeme) → is_over open_braces a ≡ false
     → length (others a) + 1 ≡ length a
 some_left open_braces [] further = cc
 some_left open_braces (t ∷ rest) further = omega arith
-
--- a step more: what it adds, and what is behind it
-pub step_more : {A B : Type 0} (f : A → B) (front now : List B) (all first behind : List A)
-    → all ≡ first ++ behind → now ≡ front ++ map f first → now ++ map f behind ≡ front ++ map f all
-step_more f front now all first behind split added =
-    rw (added, split, map-append f first behind) (append_assoc front (map f first) (map f behind))
 
 -- ---- the tokens behind a brace
 
@@ -88,29 +63,6 @@ parted_from start (suc place) text (t ∷ rest) h p =
     ))
 
 -- ---- where nothing is said
-
-pub any_goes_on : (a : List Lexeme) → is_end a ≡ false → (reserves_names a || makes_message_set a) ≡ false
-    → says_any (others a) ≡ says_any a
-any_goes_on [] some none = cc
-any_goes_on (t ∷ rest) some none =
-    let neither = both_false (reserves_names (t ∷ rest)) (makes_message_set (t ∷ rest)) none in
-    rw (neither.0, neither.1) refl
-
-pub any_found : (a : List Lexeme) → is_end a ≡ false → (reserves_names a || makes_message_set a) ≡ true
-    → says_any a ≡ true
-any_found [] some is = cc
-any_found (t ∷ rest) some is =
-    either_true (reserves_names (t ∷ rest)) (makes_message_set (t ∷ rest)) is (λ r. rw r refl)
-    (λ m. by_reserved (reserves_names (t ∷ rest)) m)
-  where
-    by_reserved : (reserved : Bool) → makes_message_set (t ∷ rest) ≡ true
-        → (reserved || (makes_message_set (t ∷ rest) || says_any rest)) ≡ true
-    by_reserved true m = refl
-    by_reserved false m = rw m refl
-
-pub any_end : (a : List Lexeme) → is_end a ≡ true → says_any a ≡ false
-any_end [] over = refl
-any_end (t ∷ rest) over = cc
 
 record SaysNothing (t : Lexeme) (rest : List Lexeme) : Type 0 where
   reserves : reserves_names (t ∷ rest) ≡ false

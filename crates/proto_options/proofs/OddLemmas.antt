@@ -1,35 +1,14 @@
 -- What is read past in messages: how the code moves over it, that it takes tokens, and that it stays in the braces.
-use Rattle.std.proofs.Common.{◌≡◌, ℕ, ◌+◌, ◌<◌, ◌≤◌, Bool, true, false}
+use Rattle.std.proofs.Common.{◌≡◌, ℕ, ◌+◌, ◌<◌, ◌≤◌, Bool, true}
 use Rattle.std.proofs.Common.{List, [], ◌∷◌, length, refl, subst, arith}
 use Rattle.proto_lex.specs.declared.token.TokenKind.TheVariants.{OpenBrace}
 use Rattle.proto_lex.proofs.ReadingTestLemmas.{chosen}
 use Rattle.proto_grammar.specs.Lexeme.{Lexeme}
-use Rattle.proto_grammar.specs.Terminal.{first_is, others, of_kind, is_end}
-use Rattle.proto_options.specs.Grammar.Passed.{open_behind, braces_behind, brackets_behind, is_past, behind_open}
+use Rattle.proto_grammar.specs.Terminal.{first_is, of_kind}
+use Rattle.proto_options.specs.Grammar.Passed.{braces_behind, brackets_behind, is_past, behind_open}
 use Rattle.proto_options.specs.Grammar.Passed.{past_one, opens_bracket, has_sign, past_odd}
 
 -- ---- as the code moves
-
-pub open_done : (braces brackets : ℕ) (a : List Lexeme) → is_end a ≡ true → behind_open braces brackets a ≡ a
-open_done braces brackets [] e = refl
-open_done braces brackets (t ∷ rest) e = cc
-
-pub open_past : (braces brackets : ℕ) (a : List Lexeme) → is_past braces brackets a ≡ true
-    → behind_open braces brackets a ≡ a
-open_past braces brackets [] e = refl
-open_past braces brackets (t ∷ rest) e = rw e refl
-
-pub open_goes_on : (braces brackets : ℕ) (a : List Lexeme) → is_end a ≡ false → is_past braces brackets a ≡ false
-    → behind_open braces brackets a
-    ≡ behind_open (braces_behind a braces) (brackets_behind a braces brackets) (others a)
-open_goes_on braces brackets [] not_end e = cc
-open_goes_on braces brackets (t ∷ rest) not_end e = rw e refl
-
--- one more is open at most
-pub open_most : (opens closes : Bool) (count : ℕ) → open_behind opens closes count ≤ count + 1
-open_most true closes count = omega arith
-open_most false true count = omega arith
-open_most false false count = omega arith
 
 -- ---- tokens are taken
 

@@ -246,42 +246,6 @@ pub record AreSetUpTo (numbers : List ℕ) (from end : ℕ) (old new : List (Opt
       → ((index : ℕ) → from ≤ index → index < count → slice_get numbers index ≡ Some number → ⊥)
       → slice_get new number ≡ slice_get old number
 
-pub set_none : (numbers : List ℕ) (from end : ℕ) (old : List (Option ℕ)) → AreSetUpTo numbers from end old old from
-set_none numbers from end old = record {
-  set = λ index number behind before at. absurd (omega (arith, behind, before));
-  kept = λ number isnt. refl;
-}
-
-pub set_more : (numbers : List ℕ) (from end : ℕ) (old now new : List (Option ℕ)) (count one : ℕ) → from ≤ count
-    → slice_get numbers count ≡ Some one → one < length now → new ≡ slice_set now one (Some end)
-    → AreSetUpTo numbers from end old now count → AreSetUpTo numbers from end old new (count + 1)
-set_more numbers from end old now new count one behind stands within is so_far = record {
-  set = λ index number later before at. elim (cases_lt index count) [
-    | inl earlier ↦ elim (cases_order number one) [
-      | inl same ↦ here number same
-      | inr apart ↦ unchanged number (differ number apart) ∙ so_far.set index number later earlier at
-    ]
-    | inr last ↦ (
-        let same : index ≡ count = omega arith in
-        here number (same_Some number one (sym at ∙ (ap (slice_get numbers) same ∙ stands))))
-  ];
-  kept = λ number isnt.
-      unchanged number (λ same. isnt count behind (omega arith) (stands ∙ ap Some (sym same)))
-      ∙ so_far.kept number (λ index later earlier at. isnt index later (omega arith) at);
-}
-  where
-    differ : (number : ℕ) → (number < one) ⊎ (one < number) → number ≡ one → ⊥
-    differ number (inl less) same = omega arith
-    differ number (inr more) same = omega arith
-
-    here : (number : ℕ) → number ≡ one → slice_get new number ≡ Some (Some end)
-    here number same = ap (slice_get new) same ∙ (ap (λ (xs : List (Option ℕ)). slice_get xs one) is
-        ∙ set_there now one (Some end) within)
-
-    unchanged : (number : ℕ) → (number ≡ one → ⊥) → slice_get new number ≡ slice_get now number
-    unchanged number apart =
-        ap (λ (xs : List (Option ℕ)). slice_get xs number) is ∙ set_elsewhere now one number (Some end) apart
-
 module _ (back : List Steps) (ends : List ℕ) where
   -- one of the first so many leads to it
   abbrev pub IsLedUpTo : (count number : ℕ) → Type 0
@@ -297,28 +261,6 @@ module _ (back : List Steps) (ends : List ℕ) where
     pub size : length firsts ≡ length back
     pub each : (number : ℕ) (first : Option ℕ) → slice_get firsts number ≡ Some first
         → MatchOption first (IsLedUpTo count number → ⊥) (IsFirstUpTo count number)
-
-  pub ends_none : (numbers : List ℕ) (firsts : List (Option ℕ)) → numbers ≡ [] → length firsts ≡ length back
-      → All (λ first. first ≡ None) firsts → AreEndsUpTo 0 numbers firsts
-  ends_none numbers firsts empty size none = record {
-    found = λ number. (
-      λ there. (let less = ap length empty in absurd (omega (arith, there.1, less))),
-      λ led. absurd (omega (arith, led.2)),
-    );
-    size = size;
-    each = λ number first at. by number first
-        (get_or_same number first at ∙ none number first (slice_get_within firsts number first at));
-  }
-    where
-      get_or_same : (number : ℕ) (first : Option ℕ) → slice_get firsts number ≡ Some first
-          → first ≡ get_or firsts number first
-      get_or_same number first at = same_Some first (get_or firsts number first)
-          (sym at ∙ slice_get-get_or firsts number first (slice_get_within firsts number first at))
-
-      by : (number : ℕ) (first : Option ℕ) → first ≡ None
-          → MatchOption first (IsLedUpTo 0 number → ⊥) (IsFirstUpTo 0 number)
-      by number None is = λ led. omega (arith, led.2)
-      by number (Some end) is = absurd cc
 
   pub ends_all : (count : ℕ) (numbers : List ℕ) (firsts : List (Option ℕ)) → length ends ≤ count
       → AreEndsUpTo count numbers firsts → AreFirstEnds back ends firsts

@@ -36,23 +36,6 @@ pub slice_get_last : {X : Type 0} (xs : List X) (x : X) (k : ℕ) → k ≡ leng
 slice_get_last xs x k is =
     slice_get-get_or (xs ++ x ∷ []) k x (omega (arith, length_push xs x)) ∙ ap Some (get_or_push xs x x k (sym is))
 
-pub prefixes_more : (files : List File) (prefixes : List (List (List ℕ))) (count : ℕ) (file : File)
-    (its : List (List ℕ)) → length prefixes ≡ count → slice_get files count ≡ Some file
-    → ArePrefixes (package_name_of file) its
-    → ArePrefixesUpTo files prefixes → ArePrefixesUpTo files (prefixes ++ its ∷ [])
-prefixes_more files prefixes count file its size stands here each number one ones at there =
-    elim (cases_lt number count) [
-      | inl before ↦ each number one ones at (sym (slice_get_prefix prefixes (its ∷ []) number (omega arith)) ∙ there)
-      | inr last ↦ (
-          let within = slice_get_within (prefixes ++ its ∷ []) number ones there in
-          let is : number ≡ count = omega (arith, length_push prefixes its) in
-          let same : one ≡ file = same_Some one file (sym at ∙ (ap (slice_get files) is ∙ stands)) in
-          let its_is : ones ≡ its =
-          one_List ones its (sym there ∙ slice_get_last prefixes its number (is ∙ sym size)) in
-          subst (λ f. ArePrefixes (package_name_of f) ones) (sym same)
-          (subst (λ (v : List (List ℕ)). ArePrefixes (package_name_of file) v) (sym its_is) here))
-    ]
-
 -- ---- items
 
 -- the items of the first so many files of the row

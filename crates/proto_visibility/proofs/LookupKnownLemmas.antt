@@ -68,10 +68,6 @@ giving files file admits name kind
 
 module _ (files : List File) (file : ℕ) (admits : NameKind → Bool) (name : List ℕ) (row : List ℕ)
     (sees : (other : ℕ) → Contains row other ↔ Sees files file other) where
-  pub row_below : (number : ℕ) → Contains row number → (Sees files file number → number < length files)
-      → number < length files
-  row_below number there below = below ((sees number).0 there)
-
   pub knows_by : (found : Option ℕ)
       → MatchOption found ((number : ℕ) → Contains row number → IsGiving files admits name number → ⊥)
       (λ number. Contains row number × IsGiving files admits name number)

@@ -6,7 +6,7 @@ use Rattle.std.specs.List.Sorted.{IsNonDecreasing, IsBinarySearchResult}
 use Rattle.std.specs.Ordering.{nat_cmp}
 use Rattle.std.specs.Result.{is_ok}
 use Rattle.std.proofs.lemmas.Bool.{cases_lt, cases_order, false≢true}
-use Rattle.std.proofs.lemmas.Option.{slice_get_within, same_Some}
+use Rattle.std.proofs.lemmas.Option.{slice_get_within}
 use Rattle.std.proofs.lemmas.List.{get_or_default}
 use Rattle.std.proofs.lemmas.List.Sorted.{searched}
 use Rattle.proto_decl.specs.Facts.{Facts}
@@ -32,28 +32,6 @@ abbrev pub NoneDeclaresUpTo : List DeclaredAt → (row : List ℕ) → (NameKind
 NoneDeclaresUpTo declared row admits count = (k : ℕ) (one : DeclaredAt) → k < count → slice_get declared k ≡ Some one
     → admits (OfDeclaration one.kind) ≡ true → Contains row one.file → ⊥
 
-pub none_declares_more : (declared : List DeclaredAt) (row : List ℕ) (admits : NameKind → Bool) (count : ℕ)
-    (one : DeclaredAt) → slice_get declared count ≡ Some one
-    → (admits (OfDeclaration one.kind) ≡ true → Contains row one.file → ⊥) → NoneDeclaresUpTo declared row admits count
-    → NoneDeclaresUpTo declared row admits (count + 1)
-none_declares_more declared row admits count one stands not so_far k other h at admitted there =
-    elim (cases_lt k count) [
-      | inl before ↦ so_far k other before at admitted there
-      | inr last ↦ (
-          let here : k ≡ count = omega arith in
-          let same : other ≡ one = same_Some other one (sym at ∙ (ap (slice_get declared) here ∙ stands)) in
-          not (ap (λ (x : DeclaredAt). admits (OfDeclaration x.kind)) (sym same) ∙ admitted)
-          (subst (λ (x : DeclaredAt). Contains row x.file) same there))
-    ]
-
-pub none_declares : (declared : List DeclaredAt) (row : List ℕ) (admits : NameKind → Bool) (count : ℕ)
-    → length declared ≤ count → NoneDeclaresUpTo declared row admits count
-    → (number : ℕ) → Contains row number → IsDeclaring declared admits number → ⊥
-none_declares declared row admits count all so_far number there d =
-    let at = contained_at declared d.0 d.1 in
-    let within = slice_get_within declared at.0 d.0 at.1 in
-    so_far at.0 d.0 (omega arith) at.1 d.3 (subst (Contains row) (sym d.2) there)
-
 pub declares : (declared : List DeclaredAt) (admits : NameKind → Bool) (k : ℕ) (one : DeclaredAt)
     → slice_get declared k ≡ Some one → admits (OfDeclaration one.kind) ≡ true → IsDeclaring declared admits one.file
 declares declared admits k one stands admitted = (one, contained declared k one stands, refl, admitted)
@@ -66,34 +44,10 @@ NoneElsewhereUpTo declared row admits file count = (k : ℕ) (one : DeclaredAt) 
     → slice_get declared k ≡ Some one → (one.file ≡ file → ⊥) → admits (OfDeclaration one.kind) ≡ true
     → Contains row one.file → ⊥
 
-pub none_elsewhere_more : (declared : List DeclaredAt) (row : List ℕ) (admits : NameKind → Bool) (file count : ℕ)
-    (one : DeclaredAt) → slice_get declared count ≡ Some one
-    → ((one.file ≡ file → ⊥) → admits (OfDeclaration one.kind) ≡ true → Contains row one.file → ⊥)
-    → NoneElsewhereUpTo declared row admits file count → NoneElsewhereUpTo declared row admits file (count + 1)
-none_elsewhere_more declared row admits file count one stands isnt so_far k other h at apart admitted there =
-    elim (cases_lt k count) [
-      | inl before ↦ so_far k other before at apart admitted there
-      | inr last ↦ (
-          let here : k ≡ count = omega arith in
-          let same : other ≡ one = same_Some other one (sym at ∙ (ap (slice_get declared) here ∙ stands)) in
-          isnt (λ its. apart (ap (λ (x : DeclaredAt). x.file) same ∙ its))
-          (ap (λ (x : DeclaredAt). admits (OfDeclaration x.kind)) (sym same) ∙ admitted)
-          (subst (λ (x : DeclaredAt). Contains row x.file) same there))
-    ]
-
 -- another file of the row declares
 abbrev pub IsElsewhere : (row : List ℕ) → List DeclaredAt → (NameKind → Bool) → (file : ℕ) → Type 0
 IsElsewhere row declared admits file =
     (number : ℕ) × (number ≢ file) × Contains row number × IsDeclaring declared admits number
-
-pub none_elsewhere : (declared : List DeclaredAt) (row : List ℕ) (admits : NameKind → Bool) (file count : ℕ)
-    → length declared ≤ count → NoneElsewhereUpTo declared row admits file count
-    → IsElsewhere row declared admits file → ⊥
-none_elsewhere declared row admits file count all so_far is =
-    let d = is.3 in
-    let at = contained_at declared d.0 d.1 in
-    let within = slice_get_within declared at.0 d.0 at.1 in
-    so_far at.0 d.0 (omega arith) at.1 (λ its. is.1 (sym d.2 ∙ its)) d.3 (subst (Contains row) (sym d.2) is.2)
 
 pub elsewhere : (declared : List DeclaredAt) (row : List ℕ) (admits : NameKind → Bool) (file k : ℕ) (one : DeclaredAt)
     → slice_get declared k ≡ Some one → (one.file ≡ file → ⊥) → admits (OfDeclaration one.kind) ≡ true
@@ -145,17 +99,6 @@ none_shared numbers others count all so_far number there among =
 abbrev pub NoneOfFileUpTo : List DeclaredAt → (file : ℕ) → (count : ℕ) → Type 0
 NoneOfFileUpTo declared file count = (k : ℕ) (one : DeclaredAt) → k < count → slice_get declared k ≡ Some one
     → one.file ≡ file → ⊥
-
-pub none_of_file_more : (declared : List DeclaredAt) (file count : ℕ) (one : DeclaredAt)
-    → slice_get declared count ≡ Some one → (one.file ≡ file → ⊥) → NoneOfFileUpTo declared file count
-    → NoneOfFileUpTo declared file (count + 1)
-none_of_file_more declared file count one stands not so_far k other h at here = elim (cases_lt k count) [
-  | inl before ↦ so_far k other before at here
-  | inr last ↦ (
-      let is : k ≡ count = omega arith in
-      let same : other ≡ one = same_Some other one (sym at ∙ (ap (slice_get declared) is ∙ stands)) in
-      not (ap (λ (x : DeclaredAt). x.file) (sym same) ∙ here))
-]
 
 pub none_of_file : (declared : List DeclaredAt) (file count : ℕ) → length declared ≤ count
     → NoneOfFileUpTo declared file count → (one : DeclaredAt) → Contains declared one → one.file ≡ file → ⊥

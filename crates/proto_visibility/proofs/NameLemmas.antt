@@ -8,7 +8,7 @@ use Rattle.std.specs.Str.{bytes_eq}
 use Rattle.std.proofs.lemmas.Bool.{cases_lt, cases_Bool, cond-true, cond-false, false≢true}
 use Rattle.std.proofs.lemmas.Option.{slice_get_within, same_Some}
 use Rattle.std.proofs.lemmas.List.Elements.{Contains-get_or, Contains-push, Contains-push_cases, Contains-append_left}
-use Rattle.std.proofs.lemmas.List.Sorted.{IsNonDecreasingBy-push, IsNonDecreasingBy-short}
+use Rattle.std.proofs.lemmas.List.Sorted.{IsNonDecreasingBy-push}
 use Rattle.std.proofs.lemmas.Slice.Eq.{bytes_eq-Decides}
 use Rattle.basics.proofs.ListLemmas.{item_at}
 use Rattle.proto_decl.specs.Names.{package_of}
@@ -31,12 +31,6 @@ HasUpTo {Y} old new R count = (name : List ℕ) (y : Y) → Contains (new name) 
     ↔ (Contains (old name) y ⊎ ((k : ℕ) × (k < count) × R k name y))
 
 module _ {Y : Type 0} (old : List ℕ → List Y) (R : ℕ → List ℕ → Y → Type 0) where
-  pub up_to_none : HasUpTo old old R 0
-  up_to_none name y = (
-    λ there. inl there,
-    λ those. elim those [ inl there ↦ there | inr some ↦ absurd (omega (arith, some.1)) ],
-  )
-
   pub up_to_more : (now new : List ℕ → List Y) (count : ℕ)
       → ((name : List ℕ) (y : Y) → Contains (new name) y ↔ (Contains (now name) y ⊎ R count name y))
       → HasUpTo old now R count → HasUpTo old new R (count + 1)
@@ -350,6 +344,3 @@ files_behind prefixes count now its name other there = elim ((its name other).0 
   | inl none ↦ absurd (omega (arith, none.1))
   | inr here ↦ omega (arith, here.1, here.2.1)
 ]
-
-pub none_falls : IsNonDecreasing []
-none_falls = IsNonDecreasingBy-short (λ x. x) [] (omega arith)

@@ -46,11 +46,6 @@ pub sees_imported : {files : List File} {a b : ℕ} → Sees files a b → Impor
 sees_imported itself = stays
 sees_imported (import step rest) = goes_on step (leads_imported rest)
 
-pub imported_inside : {files : List File} {a b : ℕ} → ImportsLeadTo files a b → a < length files → b < length files
-imported_inside stays h = h
-imported_inside {files} (goes_on {next = next} step rest) h =
-    imported_inside rest (slice_get_within files next step.file step.numbered)
-
 pub options_inside : {files : List File} {source number : ℕ} → HasOptionsIn files source number
     → number < length files
 options_inside {files} {source} {number} (imported lead is) =

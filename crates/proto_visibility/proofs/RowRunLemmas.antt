@@ -9,7 +9,7 @@ use Rattle.std.proofs.lemmas.Bool.Decides.{nat_tests}
 use Rattle.std.proofs.lemmas.Option.{slice_get_within, get_or_from_slice_get, slice_get-get_or, same_Some}
 use Rattle.std.proofs.lemmas.List.{append_assoc, get_or_default, take_all}
 use Rattle.std.proofs.lemmas.List.FromFn.{length-range_with_len, get_or-range_with_len}
-use Rattle.std.proofs.lemmas.List.Elements.{All-nil, All-push, All-weaker, Contains-append_left, Contains-append_right}
+use Rattle.std.proofs.lemmas.List.Elements.{All-nil, Contains-append_left, Contains-append_right}
 use Rattle.std.proofs.lemmas.List.Elements.{Contains-append_cases, Contains-get_or}
 use Rattle.std.proofs.lemmas.List.Sorted.{IsNonDecreasingBy-short, IsNonDecreasingBy-push}
 use Rattle.proto_visibility.specs.declared.rows.Run.{Run}
@@ -94,23 +94,6 @@ in_pushed runs run number =
 
 -- ---- a run with its next number
 
-pub near_numbers : (runs : List Run) (run : Run) (number : ℕ) → run.first ≤ run.last → run.last ≤ number
-    → number - run.last ≤ 1 → (other : ℕ)
-    → HasNumber runs (record { first = run.first; last = number }) other ↔ (HasNumber runs run other ⊎ (other ≡ number))
-near_numbers runs run number whole behind near other = (
-  λ has. elim has [
-    | inl done ↦ inl (inl done)
-    | inr is ↦ elim (cases_lt run.last other) [
-      | inl past ↦ inr (omega (arith, is.1, past, near, behind))
-      | inr within ↦ inl (inr (is.0, within))
-    ]
-  ],
-  λ has. elim has [
-    | inl before ↦ elim before [ inl done ↦ inl done | inr is ↦ inr (is.0, omega (arith, is.1, behind)) ]
-    | inr same ↦ inr (omega (arith, same, whole, behind), omega (arith, same))
-  ],
-)
-
 pub far_numbers : (runs : List Run) (run : Run) (number : ℕ) (other : ℕ)
     → HasNumber (runs ++ run ∷ []) (record { first = number; last = number }) other
     ↔ (HasNumber runs run other ⊎ (other ≡ number))
@@ -133,16 +116,6 @@ pushed_order runs run before whole = record {
       let e = before.ended (length runs - 1) d (omega (arith, some)) in omega (arith, w, e));
   lasts = IsNonDecreasingBy-push (λ (r : Run). r.last) runs run before.order.lasts
       (λ d some. let e = before.ended (length runs - 1) d (omega (arith, some)) in omega (arith, e, whole));
-}
-
-pub far_before : (runs : List Run) (run : Run) (number : ℕ) → AreBefore runs run.first → run.first ≤ run.last
-    → run.last ≤ number → AreBefore (runs ++ run ∷ []) number
-far_before runs run number before whole behind = record {
-  order = pushed_order runs run before whole;
-  whole = All-push (λ (r : Run). r.first ≤ r.last) runs run before.whole whole;
-  ended = All-push (λ (r : Run). r.last ≤ number) runs run
-      (All-weaker (λ (r : Run). r.last ≤ run.first) (λ (r : Run). r.last ≤ number)
-      (λ r h. omega (arith, h, whole, behind)) runs before.ended) behind;
 }
 
 pub none_order : (runs : List Run) → runs ≡ [] → AreInOrder runs

@@ -1,12 +1,12 @@
 -- The marks of a search over files.
 use Rattle.std.proofs.Common.{◌≡◌, inl, inr, ℕ, ◌<◌, ◌≤◌, Bool, true, false, ◌||◌, List, [], ◌∷◌, ◌++◌, length, get_or}
-use Rattle.std.proofs.Common.{set, eqb, Some, refl, ap, sym, ◌∙◌, subst, arith, All}
+use Rattle.std.proofs.Common.{set, eqb, refl, ap, sym, ◌∙◌, subst, arith, All}
 use Rattle.std.specs.List.{IsDistinct, list_any}
 use Rattle.std.proofs.lemmas.Cmp.{nat_eq_equiv}
 use Rattle.std.proofs.lemmas.Bool.{false≢true, cases_eq, eqb-true, eq-eqb, ne_eqb, false_from_ne_true}
 use Rattle.std.proofs.lemmas.List.{length-set, length_push, get_or-set_same, get_or-set_other}
 use Rattle.std.proofs.lemmas.List.Folds.{list_any-append}
-use Rattle.std.proofs.lemmas.List.Elements.{All-nil, All-push, All-pop, All-contains, All-weaker}
+use Rattle.std.proofs.lemmas.List.Elements.{All-nil, All-push, All-contains, All-weaker}
 use Rattle.std.proofs.lemmas.Map.Keys.{IsDistinct-push}
 use Rattle.std.proofs.lemmas.Map.Views.{Contains-from_any}
 use Rattle.std.proofs.lemmas.Map.Steps.{length-le_from_distinct_below}
@@ -94,43 +94,6 @@ new_at marks found numbers index m within inside unmarked =
 abbrev pub StandsFor : List Bool → List ℕ → Type 0
 StandsFor marks left = (number : ℕ) → number < length marks → get_or marks number false ≡ true
     → list_any (eqb number) left ≡ true
-
-pub stands_at_first : (marks : List Bool) (found : List ℕ) → AreMarked marks found → StandsFor marks found
-stands_at_first marks found m number h t = sym (m.marked number h) ∙ t
-
--- the last of those found is cleared
-pub stands_less : (marks : List Bool) (found left : List ℕ) (number : ℕ) → found ≡ left ++ number ∷ []
-    → number < length marks → StandsFor marks found → StandsFor (set marks number false) left
-stands_less marks found left number parted k stands other o t = elim (cases_eq other number) [
-  | inl same ↦ absurd (false≢true
-      (sym (subst (λ n. get_or (set marks number false) n false ≡ false) (sym same)
-      (get_or-set_same marks number false false k)) ∙ t))
-  | inr apart ↦ (
-      let size = length-set marks number false in
-      let before : get_or marks other false ≡ true = sym (get_or-set_other marks number other false false apart) ∙ t in
-      let there : list_any (eqb other) found ≡ true = stands other (omega arith) before in
-      let parts : list_any (eqb other) found ≡ (list_any (eqb other) left || list_any (eqb other) (number ∷ [])) =
-      ap (list_any (eqb other)) parted ∙ list_any-append (eqb other) left (number ∷ []) in
-      let differ : eqb other number ≡ false = ne_eqb other number apart in
-      first_true (list_any (eqb other) left)
-      (sym (parts ∙ ap (λ b. list_any (eqb other) left || (b || false)) differ) ∙ there))
-]
-  where
-    first_true : (b : Bool) → (b || (false || false)) ≡ true → b ≡ true
-    first_true true e = refl
-    first_true false e = e
-
--- and what is left is in range, as it was
-pub below_less : (marks : List Bool) (found left : List ℕ) (number : ℕ) → found ≡ left ++ number ∷ []
-    → All (λ n. n < length marks) found
-    → (number < length marks) × All (λ n. n < length (set marks number false)) left
-below_less marks found left number parted below =
-    let parts = All-pop (λ n. n < length marks) found left (Some number) parted below in
-    let size = length-set marks number false in (
-      parts.1,
-      All-weaker (λ n. n < length marks) (λ n. n < length (set marks number false))
-          (λ n k. omega arith) left parts.0,
-    )
 
 pub cleared : (marks : List Bool) (found left : List ℕ) → found ≡ left ++ [] → StandsFor marks found → left ≡ []
     → AreMarked marks left

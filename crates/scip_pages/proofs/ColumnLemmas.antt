@@ -22,9 +22,6 @@ first_here p most at inside =
     let b : most + 1 - (at + 1) ≡ most - at = omega arith in
     rw (a, b) refl
 
-pub first_past : (p : ℕ → Bool) (most : ℕ) → first_from p most (most + 1) ≡ None
-first_past p most = let a : most + 1 - (most + 1) ≡ 0 = omega arith in rw a refl
-
 -- the units before an offset, and those before the next
 pub units_rise : (unit : ColumnUnit) (line : List ℕ) (a : ℕ)
     → units_in unit (take a line) ≤ units_in unit (take (a + 1) line)

@@ -4,10 +4,9 @@ use Rattle.std.proofs.Common.{true, false, cond, nat_lt, nat_le, List, [], ◌�
 use Rattle.std.proofs.Common.{inr, ◌⊎◌, arith, map, ◌++◌}
 use Rattle.std.specs.Prelude.{Option, None, Some}
 use Rattle.std.specs.List.{prefix_len, range_with_len}
-use Rattle.std.proofs.lemmas.List.Sums.{fold_more}
 use Rattle.std.proofs.lemmas.List.{take_all}
-use Rattle.std.proofs.lemmas.Bool.{cases_lt, eq-eqb, lt-ltb, le-ltb, le-leb, lt-leb}
-use Rattle.std.proofs.Math.Bool.{and-true, and-false}
+use Rattle.std.proofs.lemmas.Bool.{eq-eqb, lt-ltb, le-ltb, le-leb, lt-leb}
+use Rattle.std.proofs.Math.Bool.{and-false}
 use Rattle.scip_pages.proofs.CodeLemmas.{marks_same as same_is}
 use Rattle.scip_pages.specs.declared.runs.Span.{Span}
 use Rattle.scip_pages.specs.declared.runs.Run.{Run}
@@ -16,52 +15,6 @@ use Rattle.scip_pages.specs.Runs.{covers, narrower, span_at, number_of, marks_of
 -- what is there once a span is laid on the bytes before an offset
 abbrev pub laid : Span → ℕ → Option Span → ℕ → Option Span
 laid span at old p = cond (covers span p && nat_lt p at) (Some (narrower old span)) old
-
-lt_next : (p at : ℕ) → (p ≡ at → ⊥) → nat_lt p (at + 1) ≡ nat_lt p at
-lt_next p at other = by (cases_lt p at)
-  where
-    by : (p < at) ⊎ (at ≤ p) → nat_lt p (at + 1) ≡ nat_lt p at
-    by (inl less) = rw (lt-ltb p at less, lt-ltb p (at + 1) (omega (arith, less))) refl
-    by (inr more) = rw (le-ltb p at more, le-ltb p (at + 1) (omega (arith, more, other))) refl
-
-pub laid_on : (span : Span) (at : ℕ) (old : Option Span) → span.start ≤ at → at < span.end → laid span at old at ≡ old
-laid_on span at old least most =
-    rw (le-leb span.start at least, lt-ltb at span.end most, le-ltb at at (omega arith)) refl
-
-pub laid_next : (span : Span) (at : ℕ) (old : Option Span) → span.start ≤ at → at < span.end
-    → laid span (at + 1) old at ≡ Some (narrower old span)
-laid_next span at old least most =
-    rw (le-leb span.start at least, lt-ltb at span.end most, lt-ltb at (at + 1) (omega arith)) refl
-
-pub laid_other : (span : Span) (at p : ℕ) (old : Option Span) → (p ≡ at → ⊥)
-    → laid span (at + 1) old p ≡ laid span at old p
-laid_other span at p old other = rw (lt_next p at other) refl
-
--- before it is laid on any byte, and once it is laid on all
-pub laid_none : (span : Span) (p : ℕ) (old : Option Span) → laid span span.start old p ≡ old
-laid_none span p old = by (cases_lt p span.start)
-  where
-    by : (p < span.start) ⊎ (span.start ≤ p) → laid span span.start old p ≡ old
-    by (inl less) = rw (lt-leb span.start p less) refl
-    by (inr more) = rw (le-leb span.start p more, le-ltb p span.start more, and-false (nat_lt p span.end)) refl
-
-pub laid_all : (span : Span) (at p : ℕ) (old : Option Span) → (span.end ≤ at) ⊎ (p < at)
-    → laid span at old p ≡ cond (covers span p) (Some (narrower old span)) old
-laid_all span at p old (inr less) = rw (lt-ltb p at less, and-true (covers span p)) refl
-laid_all span at p old (inl ends) = by (cases_lt p span.end)
-  where
-    by : (p < span.end) ⊎ (span.end ≤ p) → laid span at old p ≡ cond (covers span p) (Some (narrower old span)) old
-    by (inl less) = rw (lt-ltb p at (omega (arith, less, ends)), and-true (covers span p)) refl
-    by (inr more) = rw (le-ltb p span.end more, and-false (nat_le span.start p)) refl
-
--- a byte's narrowest span, of one more span
-pub span_at_more : (spans : List Span) (i p : ℕ) (d : Span) → i < length spans
-    → span_at (take (i + 1) spans) p
-    ≡ cond (covers (get_or spans i d) p) (Some (narrower (span_at (take i spans) p) (get_or spans i d)))
-    (span_at (take i spans) p)
-span_at_more spans i p d inside =
-    fold_more (λ (found : Option Span) (span : Span). cond (covers span p) (Some (narrower found span)) found) None
-    spans i d inside
 
 same_same : (a : Option ℕ) → same_mark a a ≡ true
 same_same None = refl

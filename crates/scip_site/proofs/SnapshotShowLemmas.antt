@@ -301,8 +301,3 @@ module _ {M : Type 0} (heard : SinkOf M) (gives : List ℕ → Option (List ℕ)
       record { outcome = Err left; is = is; gone = gone; told_is = says }
   left_out_so left is gone unused after (Err Write) says = absurd says
   left_out_so left is gone unused after (Err Memory) says = (unused, says)
-
-  -- or memory ran out before
-  pub refused_so : untouched
-      → ShowsOne gives root index number path whole cut untouched (writing heard here here) (Err Memory)
-  refused_so unused = (unused, refl)

@@ -30,10 +30,6 @@ pub run-simple : (word : List ℕ) → list_all is_identifier_character word ≡
 run-simple [] h some = absurd (some refl)
 run-simple (b ∷ word) h some = h
 
-pub simple-run : (word : List ℕ) → is_simple_identifier word ≡ true → list_all is_identifier_character word ≡ true
-simple-run [] h = absurd cc
-simple-run (b ∷ word) h = h
-
 pub run-exact : (word rest : List ℕ) → list_all is_identifier_character word ≡ true
     → starts is_identifier_character rest ≡ false
     → run_at (word ++ rest) ≡ (word, rest)

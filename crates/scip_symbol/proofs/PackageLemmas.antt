@@ -1,9 +1,8 @@
 -- The parts of a package by number.
 use Rattle.std.proofs.Common.{◌≡◌, ℕ, zero, suc, ◌⊎◌, inl, inr, ◌<◌, ◌+◌, List, [], ◌∷◌, map, length, get_or, refl, sym}
 use Rattle.std.proofs.Common.{ap, subst, arith}
-use Rattle.std.proofs.lemmas.List.{length-map}
 use Rattle.scip_symbol.specs.Parts.{IsPart}
-use Rattle.scip_symbol.specs.Package.{nth, ArePartsBelow, IsFirstBad, IsPackage, package_of}
+use Rattle.scip_symbol.specs.Package.{nth, ArePartsBelow}
 
 compare-suc : (j k : ℕ) → j < k + 1 → (j < k) ⊎ (j ≡ k)
 compare-suc zero zero h = inr refl
@@ -27,24 +26,3 @@ module _ {X : Type 0} (bytes : X → List ℕ) where
         | inr same ↦ subst (λ n. IsPart (nth (map bytes xs) n)) (sym same)
             (subst IsPart (sym (nth-map xs k x below is)) here)
       ]
-
-  pub first-bad : (xs : List X) (k : ℕ) (x : X) → k < length xs → x ≡ get_or xs k x → ArePartsBelow (map bytes xs) k
-      → (IsPart (bytes x) → ⊥) → IsFirstBad (map bytes xs) k
-  first-bad xs k x below is before bad = record {
-    within = omega (arith, length-map xs bytes);
-    bad = λ h. bad (subst IsPart (nth-map xs k x below is) h);
-    first = before;
-  }
-
-pub all-three : (parts : List (List ℕ)) (n : ℕ) → n ≡ 3 → ArePartsBelow parts n → IsPackage (package_of parts)
-all-three parts n e h = record { manager = h 0 (omega arith); name = h 1 (omega arith); version = h 2 (omega arith) }
-
-nth-is : (parts : List (List ℕ)) (k : ℕ) → k < 3 → IsPackage (package_of parts) → IsPart (nth parts k)
-nth-is parts zero h is = is.manager
-nth-is parts (suc zero) h is = is.name
-nth-is parts (suc (suc zero)) h is = is.version
-nth-is parts (suc (suc (suc k))) h is = absurd (omega arith)
-
-pub not-package : {P : Type 0} (parts : List (List ℕ)) (k : ℕ) → k < 3 → IsFirstBad parts k
-    → IsPackage (package_of parts) → P
-not-package parts k h bad is = absurd (bad.bad (nth-is parts k h is))

@@ -262,10 +262,6 @@ label_taken test t is through =
     (λ third. right_or (passes test (word_of (codes "optional"))) _
     (word_passes test t (codes "required") third through))))
 
--- what a label may begin isn't noisy behind it
-abbrev Quietly : Test → Bool → Type 0
-Quietly test n = (takes_label test && n) ≡ false
-
 abbrev pub Calm : Step → Bool → Type 0
 Calm Done n = Unit {0}
 Calm (Token test) n = (takes_label test && n) ≡ false

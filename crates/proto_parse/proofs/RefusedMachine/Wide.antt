@@ -39,19 +39,6 @@ pub data Wide (opens : Refusal → Bool) : Step → Step → Type 0 where
   block : {a c : Step} → Wide opens a c → Wide opens (Block a) (Block c)
   closed : {depth : ℕ} → Wide opens (Closed depth) (Closed depth)
 
-pub wide_same : (opens : Refusal → Bool) → ((r : Refusal) → opens r ≡ false) → (s : Step) → Wide opens s s
-wide_same opens shut Done = done
-wide_same opens shut (Token test) = token
-wide_same opens shut Plain = plain
-wide_same opens shut Plains = plains
-wide_same opens shut Never = never
-wide_same opens shut (Then a b) = then (wide_same opens shut a) (wide_same opens shut b)
-wide_same opens shut (If test a b) = choice (wide_same opens shut a) (wide_same opens shut b)
-wide_same opens shut (Ban r b) = ban (shut r) (wide_same opens shut b)
-wide_same opens shut (Many test a) = many (wide_same opens shut a)
-wide_same opens shut (Block a) = block (wide_same opens shut a)
-wide_same opens shut (Closed depth) = closed
-
 pub data AllWide (opens : Refusal → Bool) : List Step → List Step → Type 0 where
   none : AllWide opens [] []
   some : {s t : Step} {k l : List Step} → Wide opens s t → AllWide opens k l → AllWide opens (s ∷ k) (t ∷ l)
@@ -212,16 +199,3 @@ opens_wide {opens} {statement} {other} {k} {l} seen t why base w open_ e =
     by_other (Went next now) is v = (next, now, is)
     by_other (Halted also) is v = absurd (let off : true ≡ false = sym open_ ∙ v.1 in cc)
     by_other SecondPackage is v = absurd v
-
--- a second package is one of both
-pub second_wide : {opens : Refusal → Bool} {statement other : Step} {k l : List Step} (seen : Bool) (t : Lexeme)
-    → Wide opens statement other → AllWide opens k l
-    → feed statement k seen t ≡ SecondPackage → feed other l seen t ≡ SecondPackage
-second_wide {opens} {statement} {other} {k} {l} seen t base w e =
-    by_other (feed other l seen t) (subst (λ f. WideFed opens f (feed other l seen t)) e
-    (feed_wide seen t base w))
-  where
-    by_other : (g : Fed) → WideFed opens SecondPackage g → g ≡ SecondPackage
-    by_other (Went k now) v = absurd v
-    by_other (Halted also) v = absurd v
-    by_other SecondPackage v = refl

@@ -4,7 +4,7 @@ use Rattle.std.proofs.Common.{codes}
 use Rattle.proto_lex.specs.declared.token.TokenKind.{TokenKind}
 use Rattle.proto_lex.specs.declared.token.TokenKind.TheVariants.{Identifier, StringLiteral, Semicolon, Equals}
 use Rattle.proto_lex.specs.declared.token.TokenKind.TheVariants.{OpenBrace}
-use Rattle.proto_lex.specs.declared.token.TokenKind.TheVariants.{OpenBracket, CloseBracket}
+use Rattle.proto_lex.specs.declared.token.TokenKind.TheVariants.{CloseBracket}
 use Rattle.proto_lex.specs.declared.token.TokenKind.TheVariants.{CloseParenthesis}
 use Rattle.proto_lex.specs.declared.token.TokenKind.TheVariants.{Greater}
 use Rattle.proto_lex.specs.declared.token.TokenKind.TheVariants.{Comma, Dot}
@@ -129,15 +129,8 @@ fit_bracketed custom n = (
 pub has_bracketed : (custom : CustomOptions) (n : Option Lexeme) → Has (bracketed_rest custom) n
 has_bracketed custom n = (has_setting custom (at CloseBracket), (refl, tt))
 
--- no `[` is next
-abbrev pub NoBracket : Option Lexeme → Type 0
-NoBracket n = sees (OfKind OpenBracket) n ≡ false
-
 pub fit_options : (custom : CustomOptions) (n : Option Lexeme) → Fit (options_step custom) n
 fit_options custom n = ((has_bracketed custom n, fit_bracketed custom n), tt)
-
-pub has_options : (custom : CustomOptions) (n : Option Lexeme) → NoBracket n → Has (options_step custom) n
-has_options custom n off = (off, tt)
 
 -- ---- fields
 
@@ -171,9 +164,6 @@ fit_needed_label n = ((tt, tt), ((tt, tt), tt))
 
 pub fit_pass_field : (custom : CustomOptions) (n : Option Lexeme) → Fit (pass_field_step custom) n
 fit_pass_field custom n = (fit_label n, has_typed custom n, fit_typed custom n)
-
-pub has_pass_field : (custom : CustomOptions) (n : Option Lexeme) → Has (pass_field_step custom) n
-has_pass_field custom n = ((refl, (refl, tt)), has_typed custom n)
 
 pub fit_group : (n : Option Lexeme) → Fit group_rest n
 fit_group n = (

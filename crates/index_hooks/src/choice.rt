@@ -18,6 +18,8 @@ pub enum DocChoice {
 /// What is chosen for a declaration: whether it is kept, and which texts document it.
 #[derive(Clone, Copy, Debug, PartialEq, Eq)]
 pub struct Choice {
+    /// Whether it is kept.
     pub keep: bool,
+    /// Which of its comment texts document it.
     pub doc: DocChoice,
 }

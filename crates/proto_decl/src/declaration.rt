@@ -17,11 +17,15 @@ use std::marker::Model;
 /// specification, "Group field" and "Extend").
 #[derive(Clone, Copy, Debug, PartialEq, Eq)]
 pub enum DeclarationKind {
+    /// A message, also that of a group.
     Message,
+    /// An enum.
     Enum,
+    /// A service.
     Service,
     /// A field of a message, of a oneof, of an `extend` or of the type `map`, or that of a group.
     Field,
+    /// A oneof of a message.
     Oneof,
     /// A value of an enum.
     Value,
@@ -69,7 +73,9 @@ impl<'a, 't> DeclarationPath<'a, 't> {
 /// A step of the path to a declaration: a declaration's kind and its simple name.
 #[derive(Debug, Drop)]
 pub struct DeclarationStep<'t> {
+    /// What is declared there.
     pub kind: DeclarationKind,
+    /// Its simple name.
     pub name: KeptText<'t>,
 }
 

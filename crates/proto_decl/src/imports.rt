@@ -16,6 +16,7 @@ use std::alloc::{AllocError, Global};
 pub struct Imported<'t> {
     /// What the literals spell when joined, without their quotes.
     pub path: KeptText<'t>,
+    /// Whether it is public, weak or neither.
     pub kind: ImportKind,
     /// From the start of the first literal to the end of the last one.
     pub span: Span,

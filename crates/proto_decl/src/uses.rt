@@ -20,7 +20,9 @@ use std::alloc::{AllocError, Global};
 /// A component of a dotted name, and where it stands.
 #[derive(Debug, Drop)]
 pub struct Component<'t> {
+    /// Its text, without dots.
     pub name: TextRef<'t>,
+    /// Where it stands in the source.
     pub span: Span,
 }
 

@@ -25,7 +25,7 @@ pub fn one_name_a_use()
     ensures { OneNameAUse }
 {}
 
-/// One of the reachable files and have no facts is the least.
+/// Of the reachable files that have no facts one is the least.
 pub fn one_broken_file()
     ensures { OneBrokenFile }
 {}

@@ -87,7 +87,9 @@ impl LinkFile<'_, '_> {
 /// A span of the text of one of the files, by the file's number.
 #[derive(Clone, Copy, Debug, PartialEq, Eq)]
 pub struct FilePlace {
+    /// The file's number.
     pub file: usize,
+    /// Where in its text.
     pub span: Span,
 }
 

@@ -22,9 +22,13 @@ const LINE_ROOM: usize = 384;
 /// A document with its number, what its columns count, and the lines of its source.
 #[derive(Clone, Copy)]
 pub struct Asked<'a> {
+    /// The document's number.
     pub number: usize,
+    /// The document.
     pub document: &'a Document,
+    /// What its columns count.
     pub unit: ColumnUnit,
+    /// The lines of its source, without their ends.
     pub lines: &'a [&'a str],
 }
 

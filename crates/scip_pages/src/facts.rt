@@ -35,6 +35,7 @@ pub struct Known {
 pub struct Fact<'a> {
     /// The document's number.
     pub document: usize,
+    /// The symbol.
     pub symbol: &'a str,
     /// The places of all its occurrences.
     pub places: &'a [Place],
@@ -57,6 +58,7 @@ struct Walk {
 /// So each symbol is looked up once, however many occurrences it has.
 #[derive(Drop)]
 pub struct Facts<'a> {
+    /// What is known, in the order in which it was found.
     pub facts: Vec<Fact<'a>>,
     hints: Vec<Vec<usize>>,
 }

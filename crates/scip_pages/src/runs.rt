@@ -15,7 +15,9 @@ const ONCE_RUNS: usize = 3;
 /// The bytes of a line that an occurrence marks: from `start` up to, and without, `end`.
 #[derive(Clone, Copy, Debug, PartialEq, Eq)]
 pub struct Span {
+    /// The first of the bytes, from the line's start.
     pub start: usize,
+    /// What is behind the last one.
     pub end: usize,
     /// The number of the occurrence.
     pub occurrence: usize,

@@ -12,7 +12,9 @@ use std::alloc::{AllocError, Global};
 /// An index, and for each of its documents the source, if the document has a page.
 #[derive(Clone, Copy)]
 pub struct Site<'a> {
+    /// The index, with its tables.
     pub queries: &'a Queries,
+    /// The sources, in the order of the documents.
     pub sources: &'a [Option<OwnedText>],
 }
 

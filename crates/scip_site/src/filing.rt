@@ -17,7 +17,9 @@ use streams::Sink;
 /// where the program runs.
 #[derive(Clone, Copy)]
 pub struct Folders<'a> {
+    /// Below it are the sources.
     pub root: &'a str,
+    /// Below it go the snapshots.
     pub to: &'a str,
 }
 

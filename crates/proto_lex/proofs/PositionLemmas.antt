@@ -2,7 +2,7 @@
 use Rattle.std.proofs.Common.{◌≡◌, refl, ℕ, ◌+◌, ◌-◌, ◌≤◌, ◌*◌, List, [], ◌∷◌, ◌++◌, length, get_or, take, drop, Bool}
 use Rattle.std.proofs.Common.{true, false, not, cond, arith, length-append, length-drop}
 use Rattle.std.proofs.lemmas.List.{reverse-append, drop-append-le, length-take}
-use Rattle.std.proofs.lemmas.List.Sums.{sum_by_push, suffix_len-le-length, sum_by-le, count_by-le-length}
+use Rattle.std.proofs.lemmas.List.Sums.{sum_by_push, suffix_len-le-length, sum_by-le}
 use Rattle.std.specs.List.{after_last, count_by, sum_by, suffix_len, All}
 use Rattle.std.proofs.Math.ListN.{drop_of_length-le}
 use Rattle.std.proofs.lemmas.Bool.Decides.{nat_tests}
@@ -55,9 +55,6 @@ all_few encoding text k d inside = few_units encoding (get_or text k d)
 
 pub length-after_last-le : {X : Type 0} (p : X → Bool) (xs : List X) → length (after_last p xs) ≤ length xs
 length-after_last-le p xs = omega (arith, length-drop (length xs - suffix_len (λ x. not (p x)) xs) xs)
-
-pub line-le : (encoding : Encoding) (text : List ℕ) → (position_after encoding text).line ≤ length text
-line-le encoding text = count_by-le-length is_line_end text
 
 pub column-le : (encoding : Encoding) (text : List ℕ) → (position_after encoding text).column ≤ 2 * length text
 column-le encoding text =

@@ -1,8 +1,9 @@
 //! Lines and columns.
 
-ghost use Rattle.std.specs.Prelude.{◌≡◌, ◌<◌, ◌≤◌, length, sum_by, IfOk, IfErr};
+ghost use Rattle.std.specs.Prelude.{◌≡◌, ◌+◌, ◌/◌, ◌<◌, ◌≤◌, length, sum_by, IfOk, IfErr};
 ghost use Rattle.proto_lex.specs.Position as spec;
 ghost use Rattle.proto_lex.specs.Text.{max_text_length};
+ghost use Rattle.proto_lex.specs.Units.{AreUnits};
 
 use crate::fault::LexFault;
 use memchr::memchr_iter;
@@ -57,6 +58,28 @@ pub(crate) fn line_starts(alloc: Global, text: &[u8]) -> Result<Vec<u32>, LexFau
         starts.push(end as u32 + 1)?;
     }
     Ok(starts)
+}
+
+/// So many bytes are between two places of a text at which its code units are kept.
+pub(crate) const BYTES_A_MARK: usize = 1_024;
+
+/// The code units in UTF-16 before each multiple of `BYTES_A_MARK` bytes of `text`, at most `MAX_TEXT_LENGTH` bytes.
+pub(crate) fn units_before(alloc: Global, text: &[u8]) -> Result<Vec<u32>, LexFault>
+    requires { length text.now ≤ max_text_length }
+    ensures count { IfOk result (λ units. length units.items ≡ length text.now / 1024 + 1) }
+    ensures value { IfOk result (λ units. AreUnits text.now units.items) }
+    ensures memory { IfErr result (λ fault. fault ≡ LexFault.Memory) }
+{
+    let marks = text.len() / BYTES_A_MARK;
+    let mut units = Vec::with_capacity(alloc, marks + 1)?;
+    let mut before = 0;
+    units.push(before)?;
+    for mark in 0..marks {
+        let start = mark * BYTES_A_MARK;
+        before += columns(Encoding::Utf16, &text[start..start + BYTES_A_MARK]);
+        units.push(before)?;
+    }
+    Ok(units)
 }
 
 /// The code units of `bytes`, which are in a text, in `encoding`.

@@ -1,12 +1,15 @@
 //! Texts of sources.
 
-ghost use Rattle.std.specs.Prelude.{◌≡◌, ◌+◌, ◌<◌, ◌≤◌, ◌⊎◌, length, IfOk, IfErr, IsOkUnless, IsCharBoundary, IsTrue};
+ghost use Rattle.std.specs.Prelude.{◌≡◌, ◌+◌, ◌-◌, ◌<◌, ◌≤◌, ◌⊎◌, ◌↔◌, length, take, drop, sum_by, IfOk, IfErr};
+ghost use Rattle.std.specs.Prelude.{IsOkUnless, IsCharBoundary, IsTrue};
 ghost use Rattle.std.specs.List.Sorted.{IsPartitionPoint};
-ghost use Rattle.proto_lex.specs.Position.{line_of, line_starts, position_of};
+ghost use Rattle.proto_lex.specs.Position.{line_of, line_starts, position_of, code_units};
 ghost use Rattle.proto_lex.specs.Text.{IsText, IsNoText};
+ghost use Rattle.proto_lex.specs.Units.{HasLongLine};
+ghost use Rattle.proto_lex.specs.declared.position.Encoding.TheVariants.{Utf16};
 
 use crate::fault::LexFault;
-use crate::position::{Encoding, Position, columns, line_starts};
+use crate::position::{BYTES_A_MARK, Encoding, Position, columns, line_starts, units_before};
 use std::alloc::Global;
 use std::marker::Model;
 
@@ -23,6 +26,25 @@ pub struct Text<'a> {
     // The offsets at which the lines start, in order: 0, and that after each `\n`. A `u32` holds
     // each offset of a text, in half the memory of a `usize`.
     line_starts: Vec<u32>,
+    // The code units in UTF-16 before each multiple of `BYTES_A_MARK` bytes, if a line is longer
+    // than that; else none.
+    units: Vec<u32>,
+}
+
+/// Whether a line of a text of this length, whose lines have these starts, has over `BYTES_A_MARK` bytes.
+fn has_long_line(starts: &[u32], len: usize) -> bool
+    ensures { IsTrue result ↔ HasLongLine starts.now len }
+{
+    for line in 0..starts.len() {
+        let end = match starts.get(line + 1) {
+            Some(next) => *next as usize,
+            None => len,
+        };
+        if starts[line] as usize + BYTES_A_MARK < end {
+            return true;
+        }
+    }
+    false
 }
 
 impl<'a> Model for Text<'a> {
@@ -33,19 +55,22 @@ impl<'a> Model for Text<'a> {
     ghost use Rattle.std.specs.Prelude.{◌≡◌};
     ghost use Rattle.proto_lex.specs.Text.{IsText};
     ghost use Rattle.proto_lex.specs.Position as spec;
+    ghost use Rattle.proto_lex.specs.Units.{AreUnits};
 
     ghost view = { λ inside. inside.text.now };
 
     ghost invariant = { λ inside. IsText inside.text.now
-        × (inside.line_starts.items ≡ spec.line_starts inside.text.now) };
+        × (inside.line_starts.items ≡ spec.line_starts inside.text.now)
+        × AreUnits inside.text.now inside.units.items };
 }
 
 impl<'a> Text<'a> {
-    /// The text of these bytes, which are not copied. Its line starts take memory, four bytes a line.
+    /// The text of these bytes, which are not copied. Its line starts take memory, four bytes a line, and if a line has
+    /// over 1,024 bytes, its code units, four bytes for so many.
     ///
     /// - `TooLong`: the bytes are more than `MAX_TEXT_LENGTH`. This is tried first.
     /// - `NotUtf8`: they are not UTF-8, with the offset at which the first ill-formed sequence begins.
-    /// - `Memory`: memory ran out for the line starts, which are made last.
+    /// - `Memory`: memory ran out for the line starts or the code units, which are made last.
     pub fn new(alloc: Global, bytes: &'a [u8]) -> Result<Text<'a>, LexFault>
         ensures text { IfOk result (λ text. IsText bytes.now × (text ≡ bytes.now)) }
         ensures fault { IfErr result (λ fault. (fault ≡ LexFault.Memory) ⊎ IsNoText bytes.now fault) }
@@ -55,10 +80,19 @@ impl<'a> Text<'a> {
             return Err(LexFault::TooLong);
         }
         match str::from_utf8(bytes) {
-            Ok(text) => Ok(Text {
-                text,
-                line_starts: line_starts(alloc, bytes)?,
-            }),
+            Ok(text) => {
+                let line_starts = line_starts(alloc, bytes)?;
+                let units = if has_long_line(line_starts.as_slice(), bytes.len()) {
+                    units_before(alloc, bytes)?
+                } else {
+                    Vec::new(alloc)
+                };
+                Ok(Text {
+                    text,
+                    line_starts,
+                    units,
+                })
+            }
             Err(error) => Err(LexFault::NotUtf8(error.valid_up_to())),
         }
     }
@@ -112,7 +146,35 @@ impl<'a> Text<'a> {
         let start = self.line_starts[line] as usize;
         Position {
             line: line as u32,
-            column: columns(encoding, &self.text.as_bytes()[start..offset]),
+            column: self.units_between(start, offset, encoding),
+        }
+    }
+
+    /// The code units from one offset to another, which is not before it.
+    fn units_between(&self, start: usize, end: usize, encoding: Encoding) -> u32
+        requires order { start ≤ end }
+        requires within { end ≤ length self.now }
+        ensures { result ≡ sum_by (code_units encoding) (take (end - start) (drop start self.now)) }
+    {
+        let bytes = self.text.as_bytes();
+        match encoding {
+            Encoding::Utf8 => (end - start) as u32,
+            Encoding::Utf16 if end - start <= BYTES_A_MARK => columns(encoding, &bytes[start..end]),
+            Encoding::Utf16 => self.units_to(end) - self.units_to(start),
+        }
+    }
+
+    /// The code units in UTF-16 before an offset. If a line is longer than `BYTES_A_MARK`, so many bytes at most are
+    /// looked at.
+    fn units_to(&self, offset: usize) -> u32
+        requires { offset ≤ length self.now }
+        ensures { result ≡ sum_by (code_units Utf16) (take offset self.now) }
+    {
+        let mark = offset / BYTES_A_MARK;
+        let bytes = self.text.as_bytes();
+        match self.units.get(mark) {
+            Some(before) => *before + columns(Encoding::Utf16, &bytes[mark * BYTES_A_MARK..offset]),
+            None => columns(Encoding::Utf16, &bytes[..offset]),
         }
     }
 

@@ -27,5 +27,5 @@ returns c =
     let start : c.index.result.now ≡ get_or (line_starts text) line 0 =
     c.index.ensures ∙ (ap (λ xs. get_or xs line c.index.result.now) kept
     ∙ get_or_default (line_starts text) line c.index.result.now 0 h.within) in
-    let column = rw (start, c.as_bytes.ensures.value, c.self.view_is) at c.columns.ensures in
-    position_of-is c.args.encoding text c.args.offset line c.columns.result h c.requires.boundary.0 column
+    let column = rw start at c.units_between.ensures in
+    position_of-is c.args.encoding text c.args.offset line c.units_between.result h c.requires.boundary.0 column

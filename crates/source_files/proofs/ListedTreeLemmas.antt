@@ -7,7 +7,7 @@ use Rattle.source_files.specs.Closures.{Gathered}
 use Rattle.source_files.specs.LoadFaults.{MayRefuseFiles}
 use Rattle.source_files.specs.ListedTrees.{AreInTree, AreReachedWith, IsTreeListed, MayNotFind, MayNotLoadListed}
 use Rattle.source_files.specs.ListedTrees.{OfSources}
-use Rattle.source_files.specs.ListedTrees.{files_of}
+use Rattle.source_files.specs.ListedTrees.{files_with}
 use Rattle.source_files.specs.Reached.{AreIncluded, AreSources, Import, MayNotInclude, Told}
 use Rattle.source_files.specs.Unread.{Unread}
 use Rattle.source_files.specs.Walks.{AreOnce}
@@ -95,17 +95,16 @@ module _ (finds : List ℕ → List ℕ → Bool → Type 0) (gives : List ℕ �
   pub refuses_tree : (sources included : Gathered) (fault : LoadFault)
       → AreSources finds gives tells leaves_out shown once sources.found sources.unread
       → AreIncluded finds gives tells leaves_out links_options roots once sources.found included.found included.unread
-      → MayRefuseFiles (files_of sources.found) (files_of included.found) fault
+      → MayRefuseFiles (files_with sources.found sources.unread) (files_with included.found included.unread) fault
       → MayNotLoadListed finds gives tells leaves_out links_options roots listed fault
   refuses_tree sources included (load.Unreadable name) are seen stops = absurd stops
   refuses_tree sources included load.TooMany are seen stops =
-      inr (of_listed (λ s i lost left. MayRefuseFiles (files_of s) (files_of i) load.TooMany) sources included are seen
-      stops)
+      inr (of_listed (λ s i lost left. MayRefuseFiles (files_with s lost) (files_with i left) load.TooMany) sources
+      included are seen stops)
   refuses_tree sources included (load.BadPath path) are seen stops =
-      of_listed (λ s i lost left. MayRefuseFiles (files_of s) (files_of i) (load.BadPath path)) sources included are
-      seen
-      stops
+      of_listed (λ s i lost left. MayRefuseFiles (files_with s lost) (files_with i left) (load.BadPath path)) sources
+      included are seen stops
   refuses_tree sources included (load.SamePath path) are seen stops =
-      of_listed (λ s i lost left. MayRefuseFiles (files_of s) (files_of i) (load.SamePath path)) sources included are
-      seen stops
+      of_listed (λ s i lost left. MayRefuseFiles (files_with s lost) (files_with i left) (load.SamePath path)) sources
+      included are seen stops
   refuses_tree sources included load.Memory are seen stops = tt

@@ -1,42 +1,65 @@
 -- Files that are asked about: whether each is the one at a place.
-use Rattle.std.proofs.Common.{◌≡◌, ◌∙◌, ◌++◌, ◌+◌, [], ◌∷◌, sym, ap, subst, ℕ, Bool, false, List}
-use Rattle.std.proofs.Common.{Some, take}
-use Rattle.std.specs.Prelude.{All, slice_get}
-use Rattle.std.specs.Option.{option_map}
+use Rattle.std.proofs.Common.{◌≡◌, ◌∙◌, ◌++◌, ◌+◌, ◌<◌, [], ◌∷◌, sym, ap, subst, ℕ, Bool, true, false, List}
+use Rattle.std.proofs.Common.{None, Some, Option, length, take, true≢false}
+use Rattle.std.specs.Prelude.{All, Contains, slice_get}
+use Rattle.std.specs.Option.{IfSome, option_map}
 use Rattle.std.proofs.lemmas.List.{take_more}
 use Rattle.std.proofs.lemmas.List.Elements.{All-push}
-use Rattle.std.proofs.lemmas.Option.{slice_get_within, get_or_from_slice_get}
-use Rattle.basics.proofs.ListLemmas.{map_some as mapped}
+use Rattle.std.proofs.lemmas.Option.{get_or_from_slice_get, same_Some, slice_get_within}
+use Rattle.basics.proofs.FirstLemmas.{contained}
+use Rattle.basics.proofs.ListLemmas.{item_at}
 use Rattle.source_tree.specs.Files.{TreeFile}
+use Rattle.source_files.specs.Places.{IsSaid}
 use Rattle.source_files.specs.Roots.{path_below}
 
-module _ (same : List ℕ → Bool → Type 0) (root : List ℕ) (tree : List TreeFile) where
-  abbrev pub IsSpared : TreeFile → Type 0
-  IsSpared file = same (path_below root file.path) false
+module _ (same : List ℕ → Bool → Type 0) (root : List ℕ) where
+  -- a file that couldn't be read is spared
+  pub unread_spared : (found : Option TreeFile) → option_map (λ (file : TreeFile). file.is_unread) found ≡ Some true
+      → IfSome found (IsSaid same root false)
+  unread_spared None marked = tt
+  unread_spared (Some file) marked = λ read. absurd (true≢false (sym (same_Some file.is_unread true marked) ∙ read))
 
-  -- what is said of the file with a number
-  said_of : (number : ℕ) (path below asked : List ℕ) (said is : Bool)
-      → option_map (λ (file : TreeFile). file.path) (slice_get tree number) ≡ Some path
-      → below ≡ path_below root path → asked ≡ below → said ≡ is → same asked said
-      → (file : TreeFile) × (slice_get tree number ≡ Some file) × same (path_below root file.path) is
-  said_of number path below asked said is named one other known answer =
-      let file = mapped (λ (f : TreeFile). f.path) (slice_get tree number) path named in
-      let Here : List ℕ → Type 0 = λ p. same p is in (
-        file.0,
-        file.1,
-        subst Here
-            (other ∙ (one ∙ ap (path_below root) (sym file.2)))
-            (subst (same asked) known answer),
-      )
+  said_so : (answer : Bool) (file : TreeFile) → file.is_unread ≡ false → same (path_below root file.path) answer
+      → IsSaid same root answer file
+  said_so true file read answers = (read, answers)
+  said_so false file read answers = λ _. answers
 
-  -- one more is spared
-  pub one_spared : (number : ℕ) (path below asked : List ℕ) (said : Bool)
-      → option_map (λ (file : TreeFile). file.path) (slice_get tree number) ≡ Some path
-      → below ≡ path_below root path → asked ≡ below → said ≡ false → same asked said
-      → All IsSpared (take number tree) → All IsSpared (take (number + 1) tree)
-  one_spared number path below asked said named one other known answer so_far =
-      let of = said_of number path below asked said false named one other known answer in
-      let next : take (number + 1) tree ≡ take number tree ++ of.0 ∷ [] =
-      take_more tree number of.0 (slice_get_within tree number of.0 of.1)
-      ∙ ap (λ (f : TreeFile). take number tree ++ f ∷ []) (get_or_from_slice_get tree number of.0 of.0 of.1) in
-      subst (All IsSpared) (sym next) (All-push IsSpared (take number tree) of.0 so_far of.2)
+  -- what is said of one that could be read
+  pub said_of : (found : Option TreeFile) (path below asked : List ℕ) (answer : Bool)
+      → option_map (λ (file : TreeFile). file.path) found ≡ Some path
+      → option_map (λ (file : TreeFile). file.is_unread) found ≡ Some false
+      → below ≡ path_below root path → asked ≡ below → same asked answer → IfSome found (IsSaid same root answer)
+  said_of None path below asked answer named marked one other answers = tt
+  said_of (Some file) path below asked answer named marked one other answers =
+      let path_is : file.path ≡ path = same_Some file.path path named in
+      said_so answer file (same_Some file.is_unread false marked)
+      (subst (λ (p : List ℕ). same p answer) (other ∙ (one ∙ ap (path_below root) (sym path_is))) answers)
+
+  module _ (tree : List TreeFile) (number : ℕ) (within : number < length tree) where
+    -- what is said of the file with a number
+    said_there : (answer : Bool) → IfSome (slice_get tree number) (IsSaid same root answer)
+        → (file : TreeFile) × (slice_get tree number ≡ Some file) × IsSaid same root answer file
+    said_there answer said =
+        let there = item_at tree number within in (
+          there.0,
+          there.1,
+          subst (λ (found : Option TreeFile). IfSome found (IsSaid same root answer)) there.1 said,
+        )
+
+    -- it is the one there,
+    pub one_said : IfSome (slice_get tree number) (IsSaid same root true)
+        → (file : TreeFile) × Contains tree file × IsSaid same root true file
+    one_said said = let there = said_there true said in
+        (there.0, contained tree number there.0 there.1, there.2)
+
+    -- or one more is spared
+    pub one_spared : IfSome (slice_get tree number) (IsSaid same root false)
+        → All (IsSaid same root false) (take number tree) → All (IsSaid same root false) (take (number + 1) tree)
+    one_spared said so_far =
+        let there = said_there false said in
+        let next : take (number + 1) tree ≡ take number tree ++ there.0 ∷ [] =
+        take_more tree number there.0 (slice_get_within tree number there.0 there.1)
+        ∙ ap (λ (f : TreeFile). take number tree ++ f ∷ [])
+        (get_or_from_slice_get tree number there.0 there.0 there.1) in
+        subst (All (IsSaid same root false)) (sym next)
+        (All-push (IsSaid same root false) (take number tree) there.0 so_far there.2)

@@ -15,9 +15,9 @@ use Rattle.source_files.specs.declared.load_fault.LoadFault.{LoadFault}
 use Rattle.source_files.specs.declared.load_fault.LoadFault.TheVariants as load
 use Rattle.source_files.specs.declared.reading.ReadSource.{ReadSource}
 use Rattle.source_files.specs.declared.reading.ReadSource.TheVariants.{Held, LeftOut}
-use Rattle.source_files.specs.Roots.{AreRead, FilesBelow, IsHeld, is_read, is_unread, no_path, path_below}
+use Rattle.source_files.specs.Roots.{AreRead, FilesBelow, IsHeld, is_read, is_unread, no_path, path_below, unread_file}
 use Rattle.source_files.specs.Reading.{AddsRead, AreReadBut, GiveEach, GivesSource, IsFirstUnreadable, MayStopAt}
-use Rattle.source_files.specs.Reading.{held_of, left_of}
+use Rattle.source_files.specs.Reading.{file_of, left_of}
 
 -- the texts of a list in two parts
 pub texts_of_parts : {S : Type 0} (text : S → List ℕ) (part behind rest : List S) → part ++ behind ≡ rest
@@ -30,9 +30,9 @@ pub reads_more : (all more : List ReadSource) (old between new : FilesBelow) →
 reads_more all more old between new first second = record {
   files_are =
       second.files_are
-      ∙ (ap (λ (l : List SourceFile). l ++ flat_map held_of more) first.files_are
-      ∙ (append_assoc old.files (flat_map held_of all) (flat_map held_of more)
-      ∙ ap (λ (l : List SourceFile). old.files ++ l) (sym (flat_map-append held_of all more))));
+      ∙ (ap (λ (l : List SourceFile). l ++ map file_of more) first.files_are
+      ∙ (append_assoc old.files (map file_of all) (map file_of more)
+      ∙ ap (λ (l : List SourceFile). old.files ++ l) (sym (map-append file_of all more))));
   unread_are =
       second.unread_are
       ∙ (ap (λ (l : List Unread). l ++ flat_map left_of more) first.unread_are
@@ -81,15 +81,15 @@ module _ (lists : List ℕ → List ℕ → Option Listing → Type 0) (gives : 
 
   -- what is read and what is left out of the sources with these paths
   read_of : (paths : List (List ℕ)) (all : List ReadSource) → GiveEach lists gives leaves_out root paths all
-      → Read paths (flat_map held_of all) (flat_map left_of all)
+      → Read paths (map file_of all) (flat_map left_of all)
   read_of [] [] give = no_path
   read_of [] (read ∷ all) give = absurd give
   read_of (path ∷ paths) [] give = absurd give
   read_of (path ∷ paths) (Held source ∷ all) give =
-      subst (λ (p : List ℕ). Read (p ∷ paths) (source ∷ flat_map held_of all) (flat_map left_of all)) give.0.0
+      subst (λ (p : List ℕ). Read (p ∷ paths) (source ∷ map file_of all) (flat_map left_of all)) give.0.0
       (is_read give.0.1 (read_of paths all give.1))
   read_of (path ∷ paths) (LeftOut left ∷ all) give =
-      subst (λ (p : List ℕ). Read (path ∷ paths) (flat_map held_of all) (at_path p ∷ flat_map left_of all))
+      subst (λ (p : List ℕ). Read (path ∷ paths) (unread_file p ∷ map file_of all) (at_path p ∷ flat_map left_of all))
       (sym give.0.1) (is_unread give.0.2 (read_of paths all give.1))
 
   none_left : leaves_out ≡ false → (paths : List (List ℕ)) (all : List ReadSource)
@@ -190,7 +190,7 @@ module _ (lists : List ℕ → List ℕ → Option Listing → Type 0) (gives : 
       read =
           let both = read_append lists gives far.read.read (read_of part all give) in
           subst (λ (l : List SourceFile). Read (far.front ++ part) l new.unread) (sym adds.files_are)
-          (subst (λ (l : List Unread). Read (far.front ++ part) (old.files ++ flat_map held_of all) l)
+          (subst (λ (l : List Unread). Read (far.front ++ part) (old.files ++ map file_of all) l)
           (sym adds.unread_are) both);
       whole =
           λ strict.

@@ -10,8 +10,8 @@ use Rattle.source_files.specs.declared.load_fault.LoadFault.TheVariants as load
 use Rattle.source_files.specs.LoadFaults.{MayRefuseFiles, MayRefuseTaken}
 use Rattle.source_files.specs.Loads.{AreLoaded}
 use Rattle.source_files.specs.Roots.{FilesBelow, all_unread, files_of}
-use Rattle.source_files.specs.Taken.{AddsTaken, AreTaken, OfTaken, is_bad, is_taken, none_taken}
-use Rattle.source_files.specs.Unread.{Unread, at_bad_path}
+use Rattle.source_files.specs.Taken.{AddsTaken, AreTaken, OfTaken, bad_of, is_bad, is_taken, none_taken}
+use Rattle.source_files.specs.Unread.{Unread}
 use Rattle.source_files.specs.Walks.{AreEachOnce}
 
 module _ (leaves_out : Bool) where
@@ -20,7 +20,10 @@ module _ (leaves_out : Bool) where
       → AreTaken leaves_out (files ++ more) (taken ++ longer) (bad ++ worse)
   taken_append none_taken rest = rest
   taken_append (is_taken good front) rest = is_taken good (taken_append front rest)
-  taken_append (is_bad leaves bad front) rest = is_bad leaves bad (taken_append front rest)
+  taken_append {more = more} {taken = taken} {longer = longer} {worse = worse}
+      (is_bad {file = file} {files = files} {bad = others} leaves bad front) rest =
+      subst (λ (l : List Unread). AreTaken leaves_out (file ∷ files ++ more) (taken ++ longer) l)
+      (sym (append_assoc (bad_of file) others worse)) (is_bad leaves bad (taken_append front rest))
 
   pub none_added : (taken : List SourceFile) (unread : List Unread) → AddsTaken leaves_out [] taken taken unread unread
   none_added taken unread = record {
@@ -45,14 +48,14 @@ module _ (leaves_out : Bool) where
 
   -- or it isn't
   pub one_bad : (file : SourceFile) (taken : List SourceFile) (old new : List Unread) → leaves_out ≡ true
-      → ¬ (IsGoodPath file.path) → new ≡ old ++ at_bad_path file.path ∷ []
+      → ¬ (IsGoodPath file.path) → new ≡ old ++ bad_of file
       → AddsTaken leaves_out (file ∷ []) taken taken old new
   one_bad file taken old new leaves bad pushed = record {
     taken = [];
-    bad = at_bad_path file.path ∷ [];
+    bad = bad_of file ++ [];
     are = is_bad leaves bad none_taken;
     taken_are = sym (append-nil taken);
-    unread_are = pushed;
+    unread_are = pushed ∙ ap (λ (l : List Unread). old ++ l) (sym (append-nil (bad_of file)));
   }
 
   pub more_added : (files more taken_old taken_between taken_new : List SourceFile) (old between new : List Unread)

@@ -8,6 +8,7 @@ use Rattle.source_tree.specs.Trees.{IsTreeOf}
 use Rattle.source_files.specs.declared.load_fault.LoadFault.{LoadFault}
 use Rattle.source_files.specs.declared.load_fault.LoadFault.TheVariants.{Unreadable, TooMany, BadPath, SamePath, Memory}
 use Rattle.source_files.specs.Loads.{HasBadPath, HasSamePath}
+use Rattle.source_files.specs.Roots.{unread_file}
 use Rattle.source_files.specs.Unread.{Unread, at_path}
 use Rattle.source_files.specs.Walks.{AreEachOnce, AreOnce}
 use Rattle.source_files.specs.Reached.{AreIncluded, AreSources, CantBeRead, HasNone, Import, IsTold, MayNotInclude, Told}
@@ -15,6 +16,10 @@ use Rattle.source_files.specs.Reached.{path_of}
 
 abbrev pub files_of : List Told → List SourceFile
 files_of all = map (λ told. told.file) all
+
+-- and behind them what has these paths and can't be read
+abbrev pub files_with : List Told → (unread : List (List ℕ)) → List SourceFile
+files_with all unread = files_of all ++ map unread_file unread
 
 -- the paths of the files that are below the root with a number
 abbrev pub paths_at : (root : ℕ) → List Told → List (List ℕ)
@@ -28,7 +33,7 @@ paths_behind roots all = map (λ number. paths_at number all) (range_with_len 1 
 -- first root, and below each other one
 pub record AreInTree (roots : ℕ) (sources included : List Told) (lost left : List (List ℕ))
     (tree : List TreeFile) (own : List (List ℕ)) (others : List (List (List ℕ))) (unread : List Unread) : Type 0 where
-  pub tree_is : IsTreeOf (files_of sources) (files_of included) tree
+  pub tree_is : IsTreeOf (files_with sources lost) (files_with included left) tree
   pub own_are : own ≡ paths_at 0 sources ++ paths_at 0 included
   pub others_are : others ≡ paths_behind roots included
   pub unread_are : AreEachOnce (map at_path (lost ++ left)) unread
@@ -91,9 +96,11 @@ module _ (finds : List ℕ → List ℕ → Bool → Type 0) (gives : List ℕ �
     MayNotLoadListed TooMany =
         OfSources roots listed (λ once sources lost. MayNotInclude finds gives tells leaves_out links_options roots once
         sources TooMany)
-        ⊎ OfListed (λ sources included lost left. AreTooMany (files_of sources) (files_of included))
+        ⊎ OfListed (λ sources included lost left. AreTooMany (files_with sources lost) (files_with included left))
     MayNotLoadListed (BadPath path) =
-        OfListed (λ sources included lost left. HasBadPath (string_bytes path) (files_of sources) (files_of included))
+        OfListed (λ sources included lost left. HasBadPath (string_bytes path) (files_with sources lost)
+        (files_with included left))
     MayNotLoadListed (SamePath path) =
-        OfListed (λ sources included lost left. HasSamePath (string_bytes path) (files_of sources) (files_of included))
+        OfListed (λ sources included lost left. HasSamePath (string_bytes path) (files_with sources lost)
+        (files_with included left))
     MayNotLoadListed Memory = ⊤

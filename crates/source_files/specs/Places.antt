@@ -19,11 +19,16 @@ abbrev pub Puts : {P W E : Type 0} → (holds : P → Option (List ℕ)) → (re
 Puts holds refuses contents before after part (Ok done) = holds after ≡ contents part
 Puts holds refuses contents before after part (Err refused) = refuses before part × (after ≡ before)
 
--- Whether one of the files of a tree, below a root, is said to be the file that is at a place: one is, or each isn't.
--- `same` is what asking about a path may answer.
+-- A file of a tree could be read and is said to be, below a root, the file that is at a place, or it isn't. `same` is
+-- what asking about a path may answer.
+abbrev pub IsSaid : (same : List ℕ → Bool → Type 0) → (root : List ℕ) → (answer : Bool) → TreeFile → Type 0
+IsSaid same root true file = (file.is_unread ≡ false) × same (path_below root file.path) true
+IsSaid same root false file = file.is_unread ≡ false → same (path_below root file.path) false
+
+-- Whether one of the files of a tree is said to be it: one is, or each isn't.
 abbrev pub IsAskedBelow : (same : List ℕ → Bool → Type 0) → (root : List ℕ) → List TreeFile → Bool → Type 0
-IsAskedBelow same root tree true = (file : TreeFile) × Contains tree file × same (path_below root file.path) true
-IsAskedBelow same root tree false = All (λ (file : TreeFile). same (path_below root file.path) false) tree
+IsAskedBelow same root tree true = (file : TreeFile) × Contains tree file × IsSaid same root true file
+IsAskedBelow same root tree false = All (IsSaid same root false) tree
 
 -- the same of several roots
 abbrev pub IsAsked : (same : List ℕ → Bool → Type 0) → (roots : List (List ℕ)) → List TreeFile → Bool → Type 0

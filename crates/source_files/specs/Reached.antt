@@ -76,6 +76,7 @@ module _ (finds : List ℕ → List ℕ → Bool → Type 0) (gives : List ℕ �
       pub root : List ℕ
       pub first : IsFirstBelow finds (path_of told) roots told.root root
       pub held : MayKeep (gives (path_below root (path_of told))) (Some told.file.bytes)
+      pub could_be_read : told.file.is_unread ≡ false
       pub imports : tells told.file.bytes told.imports
 
     -- The sources with these paths, in their order. Those that can't be read, or aren't there, are left out, if such

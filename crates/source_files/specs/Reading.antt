@@ -1,6 +1,6 @@
 -- Reading the sources with given paths below a root.
 use Rattle.std.specs.Prelude.{◌≡◌, ℕ, ⊤, Bool, true, false, List, [], ◌∷◌, ◌++◌, Option, None, Result, Ok, Err, All}
-use Rattle.std.specs.Prelude.{string_bytes}
+use Rattle.std.specs.Prelude.{map, string_bytes}
 use Rattle.std.specs.List.{AllZip, flat_map}
 use Rattle.source_tree.specs.Files.{SourceFile, paths_of}
 use Rattle.source_files.specs.Listings.{Listing}
@@ -9,12 +9,12 @@ use Rattle.source_files.specs.declared.load_fault.LoadFault.{LoadFault}
 use Rattle.source_files.specs.declared.load_fault.LoadFault.TheVariants.{Unreadable, Memory}
 use Rattle.source_files.specs.declared.reading.ReadSource.{ReadSource}
 use Rattle.source_files.specs.declared.reading.ReadSource.TheVariants.{Held, LeftOut}
-use Rattle.source_files.specs.Roots.{AreRead, FilesBelow, IsHeld, path_below}
+use Rattle.source_files.specs.Roots.{AreRead, FilesBelow, IsHeld, path_below, unread_file}
 
--- the source, if it is held; what is left out
-abbrev pub held_of : ReadSource → List SourceFile
-held_of (Held source) = source ∷ []
-held_of (LeftOut path) = []
+-- the file: what is left out stands there by its path alone, and is told
+abbrev pub file_of : ReadSource → SourceFile
+file_of (Held source) = source
+file_of (LeftOut path) = unread_file (string_bytes path)
 
 abbrev pub left_of : ReadSource → List Unread
 left_of (Held source) = []
@@ -22,7 +22,7 @@ left_of (LeftOut path) = at_path (string_bytes path) ∷ []
 
 -- what was read of sources comes behind what was read before
 pub record AddsRead (all : List ReadSource) (old new : FilesBelow) : Type 0 where
-  pub files_are : new.files ≡ old.files ++ flat_map held_of all
+  pub files_are : new.files ≡ old.files ++ map file_of all
   pub unread_are : new.unread ≡ old.unread ++ flat_map left_of all
 
 module _ (lists : List ℕ → List ℕ → Option Listing → Type 0) (gives : List ℕ → Option (List ℕ) → Type 0)
@@ -47,7 +47,7 @@ module _ (lists : List ℕ → List ℕ → Option Listing → Type 0) (gives : 
   abbrev pub GiveEach : (paths : List (List ℕ)) → List ReadSource → Type 0
   GiveEach paths all = AllZip (λ path read. GivesSource path (Ok read)) paths all
 
-  -- the sources with these paths, but those that are left out
+  -- the sources with these paths, and which of them are left out
   pub record AreReadBut (paths : List (List ℕ)) (below : FilesBelow) : Type 0 where
     pub read : AreRead lists gives root paths below.files below.unread
     pub whole : leaves_out ≡ false → below.unread ≡ []

@@ -11,10 +11,14 @@ use Rattle.source_files.specs.Walks.{AreListed, AreWalked, IsRootUnlisted, IsUnl
 abbrev pub path_below : List ℕ → List ℕ → List ℕ
 path_below root path = root ++ (47 ∷ path)
 
--- files below a root, and what is left out there
+-- files below a root, and what can't be read there
 pub record FilesBelow : Type 0 where
   pub files : List SourceFile
   pub unread : List Unread
+
+-- a file that can't be read: nothing is known of what it holds
+abbrev pub unread_file : (path : List ℕ) → SourceFile
+unread_file path = record { path = path; bytes = []; is_unread = true }
 
 -- those below several roots, root by root
 abbrev pub files_of : List FilesBelow → List SourceFile
@@ -25,8 +29,9 @@ all_unread roots = flat_map (λ below. below.unread) roots
 
 module _ (lists : List ℕ → List ℕ → Option Listing → Type 0) (gives : List ℕ → Option (List ℕ) → Type 0) where
   -- a source has what its file below the root gave, as far as that is kept
-  abbrev pub IsHeld : (root : List ℕ) → SourceFile → Type 0
-  IsHeld root source = MayKeep (gives (path_below root source.path)) (Some source.bytes)
+  pub record IsHeld (root : List ℕ) (source : SourceFile) : Type 0 where
+    pub kept : MayKeep (gives (path_below root source.path)) (Some source.bytes)
+    pub could_be_read : source.is_unread ≡ false
 
   -- the sources below a root: those that are listed there, with what they hold
   pub record AreBelow (root : List ℕ) (sources : List SourceFile) : Type 0 where
@@ -42,7 +47,7 @@ module _ (lists : List ℕ → List ℕ → Option Listing → Type 0) (gives : 
         → All (IsHeld root) sources
         → gives (path_below root path) None → IsUnreadable root path
 
-  -- of the sources with these paths below a root, in their order, those that can be read, and the others
+  -- the sources with these paths below a root, in their order, and which of them can't be read
   pub data AreRead (root : List ℕ) : (paths : List (List ℕ)) → List SourceFile → (unread : List Unread) → Type 0
     where
       no_path : AreRead root [] [] []
@@ -51,10 +56,10 @@ module _ (lists : List ℕ → List ℕ → Option Listing → Type 0) (gives : 
           → AreRead root (source.path ∷ paths) (source ∷ sources) unread
       is_unread : {path : List ℕ} {paths : List (List ℕ)} {sources : List SourceFile} {unread : List Unread}
           → gives (path_below root path) None → AreRead root paths sources unread
-          → AreRead root (path ∷ paths) sources (at_path path ∷ unread)
+          → AreRead root (path ∷ paths) (unread_file path ∷ sources) (at_path path ∷ unread)
 
-  -- The sources below a root that can be read, where the others are left out, with all else found there that can't be
-  -- read. The root itself, whose path is empty, can be listed.
+  -- The sources below a root, where those that can't be read are left out, so that they stand there by their paths
+  -- alone; with all that is found there and can't be read. The root itself, whose path is empty, can be listed.
   pub record AreBelowBut (root : List ℕ) (below : FilesBelow) : Type 0 where
     pub paths : List (List ℕ)
     pub unlisted : List Unread
@@ -64,7 +69,7 @@ module _ (lists : List ℕ → List ℕ → Option Listing → Type 0) (gives : 
     pub read : AreRead root paths below.files unheld
     pub unread_are : below.unread ≡ unlisted ++ unheld
 
-  -- the files below a root, and what is left out there: nothing, or what can't be read
+  -- the files below a root, and what can't be read there: nothing, or what is left out
   abbrev pub AreFilesBelow : (leaves_out : Bool) → (root : List ℕ) → FilesBelow → Type 0
   AreFilesBelow false root below = AreBelow root below.files × (below.unread ≡ [])
   AreFilesBelow true root below = AreBelowBut root below

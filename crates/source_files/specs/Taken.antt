@@ -1,11 +1,15 @@
 -- Which of the files that were read are taken: where what can't be read is left out, a bad path is, too.
-use Rattle.std.specs.Prelude.{◌≡◌, Bool, true, List, [], ◌∷◌, ◌++◌}
+use Rattle.std.specs.Prelude.{◌≡◌, Bool, true, List, [], ◌∷◌, ◌++◌, if◌then◌else◌}
 use Rattle.source_tree.specs.Files.{SourceFile}
 use Rattle.source_tree.specs.Path.{IsGoodPath}
 use Rattle.source_files.specs.Roots.{FilesBelow, files_of}
 use Rattle.source_files.specs.Unread.{Unread, at_bad_path}
 
--- Of these files, in their order, those that are taken, and what isn't read of the others: a file whose path is no good
+-- what is told of a file that isn't taken: one that can't be read is told already
+abbrev pub bad_of : SourceFile → List Unread
+bad_of file = if file.is_unread then [] else at_bad_path file.path ∷ []
+
+-- Of these files, in their order, those that are taken, and what is told of the others: a file whose path is no good
 -- one is left out, if such are.
 pub data AreTaken (leaves_out : Bool) : (files taken : List SourceFile) → (bad : List Unread) → Type 0 where
   none_taken : AreTaken leaves_out [] [] []
@@ -14,7 +18,7 @@ pub data AreTaken (leaves_out : Bool) : (files taken : List SourceFile) → (bad
       → AreTaken leaves_out (file ∷ files) (file ∷ taken) bad
   is_bad : {file : SourceFile} {files taken : List SourceFile} {bad : List Unread}
       → leaves_out ≡ true → ¬ (IsGoodPath file.path) → AreTaken leaves_out files taken bad
-      → AreTaken leaves_out (file ∷ files) taken (at_bad_path file.path ∷ bad)
+      → AreTaken leaves_out (file ∷ files) taken (bad_of file ++ bad)
 
 -- this holds of those that are taken below a root and included roots, and of the others
 pub record OfTaken (leaves_out : Bool) (own : FilesBelow) (others : List FilesBelow)

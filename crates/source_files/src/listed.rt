@@ -4,6 +4,7 @@ ghost use Rattle.std.specs.Prelude.{◌≡◌, ◌≢◌, ◌==◌, false, ◌++
 ghost use Rattle.std.specs.Prelude.{string_bytes, take};
 ghost use Rattle.source_tree.specs.Trees.{IsTreeOf};
 ghost use Rattle.source_files.specs.LoadFaults.{MayRefuseFiles};
+ghost use Rattle.source_files.specs.Roots.{unread_file};
 ghost use Rattle.source_files.specs.Unread.{at_path, unread_of};
 ghost use Rattle.source_files.specs.Walks.{AreEachOnce, AreOnce};
 ghost use Rattle.source_files.specs.Closures.{MayRefuseUnread};
@@ -14,6 +15,7 @@ ghost use Rattle.source_files.specs.ListedTrees.{
   MayNotFind,
   MayNotLoadListed,
   files_of,
+  files_with,
   paths_at,
   paths_behind,
 };
@@ -25,6 +27,7 @@ use crate::load_fault::LoadFault;
 use crate::looking::{FoundFile, Looking, look_each};
 use crate::read_files::ReadFiles;
 use crate::readers::Readers;
+use crate::reading::unread_at;
 use crate::unread_entry::{UnreadEntry, each_once, entry_at};
 use index_pool::Gate;
 use source_tree::{Source, Tree};
@@ -123,6 +126,26 @@ fn files_of(alloc: Global, all: Vec<FoundFile>) -> Result<Vec<Source>, AllocErro
     Ok(files)
 }
 
+/// Adds the files that have these paths and can't be read.
+fn add_unread(alloc: Global, files: &mut Vec<Source>, paths: &[String]) -> Result<(), AllocError>
+    ensures { OnOk result (files.new.items ≡ files.old.items ++ map unread_file (map string_bytes paths.now)) }
+{
+    for path in paths {
+        files.push(unread_at(alloc, path.as_str())?)?;
+    }
+    Ok(())
+}
+
+/// The files alone, and behind them those that can't be read.
+fn files_with(alloc: Global, all: Gathered) -> Result<Vec<Source>, AllocError>
+    ensures { IfOk result (λ files. files.items ≡ files_with all.found all.unread) }
+{
+    let Gathered { found, unread } = all;
+    let mut files = files_of(alloc, found)?;
+    add_unread(alloc, &mut files, &unread)?;
+    Ok(files)
+}
+
 /// Adds what has these paths and can't be read.
 fn add_entries(
     alloc: Global,
@@ -167,17 +190,14 @@ fn own_paths(
     Ok(paths)
 }
 
-/// The tree of these files alone.
-fn make_of(
-    alloc: Global,
-    sources: Vec<FoundFile>,
-    included: Vec<FoundFile>,
-) -> Result<Tree, LoadFault>
-    ensures { MatchResult result (IsTreeOf (files_of sources.items) (files_of included.items))
-        (MayRefuseFiles (files_of sources.items) (files_of included.items)) }
+/// The tree of what was gathered, what can't be read included.
+fn make_of(alloc: Global, sources: Gathered, included: Gathered) -> Result<Tree, LoadFault>
+    ensures { MatchResult result
+        (IsTreeOf (files_with sources.found sources.unread) (files_with included.found included.unread))
+        (MayRefuseFiles (files_with sources.found sources.unread) (files_with included.found included.unread)) }
 {
-    let sources = files_of(alloc, sources)?;
-    let included = files_of(alloc, included)?;
+    let sources = files_with(alloc, sources)?;
+    let included = files_with(alloc, included)?;
     make_tree(alloc, sources, included)
 }
 
@@ -192,17 +212,12 @@ fn tree_of(
         (λ loaded. AreInTree roots sources.found included.found sources.unread included.unread loaded.tree
         (map string_bytes loaded.own.items) (map (λ paths. map string_bytes paths.items) loaded.others.items)
         (map unread_of loaded.unread.items))
-        (MayRefuseFiles (files_of sources.found) (files_of included.found)) }
+        (MayRefuseFiles (files_with sources.found sources.unread) (files_with included.found included.unread)) }
 {
-    let Gathered { found, unread } = sources;
-    let Gathered {
-        found: seen,
-        unread: left,
-    } = included;
-    let own = own_paths(alloc, &found, &seen)?;
-    let others = paths_behind(alloc, roots, &seen)?;
-    let unread = all_unread(alloc, &unread, &left)?;
-    let tree = make_of(alloc, found, seen)?;
+    let own = own_paths(alloc, &sources.found, &included.found)?;
+    let others = paths_behind(alloc, roots, &included.found)?;
+    let unread = all_unread(alloc, &sources.unread, &included.unread)?;
+    let tree = make_of(alloc, sources, included)?;
     Ok(LoadedTree {
         tree,
         own,

@@ -202,9 +202,10 @@ pub fn load_tree<R: Threads + Wait, G: Gate, F: ReadFiles + Sync>(
 pub struct LoadedTree {
     /// The tree.
     pub tree: Tree,
-    /// The paths of the files that were read below the root: of the sources, and with a list of those that they see.
+    /// The paths of the files below the root: of the sources, and with a list of those that were read, and that sources
+    /// see.
     pub own: Vec<String>,
-    /// For each included root the paths of the files that were read below it.
+    /// For each included root the paths of the files below it.
     pub others: Vec<Vec<String>>,
     /// What isn't read, by its path below its root, each once, in order of what is shown of it.
     pub unread: Vec<UnreadEntry>,

@@ -110,7 +110,11 @@ impl<'a, F: ReadFiles, I: FindImports> Looking<'a, F, I> {
             Some(bytes) => {
                 let imports = self.finder.imports_of(self.alloc, &bytes)?;
                 Ok(Looked::Found(FoundFile {
-                    file: Source { path, bytes },
+                    file: Source {
+                        path,
+                        bytes,
+                        is_unread: false,
+                    },
                     root: number,
                     imports,
                 }))

@@ -1,12 +1,30 @@
 //! Whether a file that was read is the one that is at a place.
 
-ghost use Rattle.std.specs.Prelude.{IfOk, map, string_bytes};
-ghost use Rattle.source_files.specs.Places.{IsAsked, IsAskedBelow};
+ghost use Rattle.std.specs.Prelude.{◌<◌, IfOk, IfSome, length, map, slice_get, string_bytes};
+ghost use Rattle.source_files.specs.Places.{IsAsked, IsAskedBelow, IsSaid};
 
 use crate::out_place::OutPlace;
 use crate::reading::path_below;
 use source_tree::Tree;
 use std::alloc::{AllocError, Global};
+
+/// Whether the file of a tree with a number could be read and is, below a root, the one that is at a place.
+fn is_read_at<P: OutPlace>(
+    alloc: Global,
+    place: &P,
+    root: &str,
+    tree: &Tree,
+    number: usize,
+) -> Result<bool, AllocError>
+    requires { number < length tree.now }
+    ensures { IfOk result (λ answer. IfSome (slice_get tree.now number) (IsSaid (P.same place.now) root.now answer)) }
+{
+    if tree.is_unread(number) {
+        return Ok(false);
+    }
+    let path = path_below(alloc, root, tree.path(number))?;
+    Ok(place.is_file(path.as_str()))
+}
 
 /// Whether one of the files of a tree, below a root, is the one that is at a place.
 fn is_read_below<P: OutPlace>(
@@ -18,16 +36,15 @@ fn is_read_below<P: OutPlace>(
     ensures { IfOk result (IsAskedBelow (P.same place.now) root.now tree.now) }
 {
     for number in 0..tree.file_count() {
-        let path = path_below(alloc, root, tree.path(number))?;
-        if place.is_file(path.as_str()) {
+        if is_read_at(alloc, place, root, tree, number)? {
             return Ok(true);
         }
     }
     Ok(false)
 }
 
-/// Whether one of the files of a tree, below one of the roots that it was read from, is the one that is at a place. So
-/// the others with its path are asked about too, which don't count.
+/// Whether one of the files of a tree that could be read, below one of the roots that it was read from, is the one that
+/// is at a place. So the others with its path are asked about too, which don't count.
 pub fn is_read_from<P: OutPlace>(
     alloc: Global,
     place: &P,

@@ -4,8 +4,9 @@ ghost use Rattle.std.specs.Prelude.{◌≡◌, ◌++◌, [], ◌∷◌, ◌<◌,
 ghost use Rattle.std.specs.Option.{option_map};
 ghost use Rattle.index_pool.specs.declared.workers.TheConstants.{MAX_INPUTS};
 ghost use Rattle.source_files.specs.Source.{MayKeep};
-ghost use Rattle.source_files.specs.Roots.{path_below};
+ghost use Rattle.source_files.specs.Roots.{path_below, unread_file};
 ghost use Rattle.source_files.specs.Reading.{AddsRead, AreReadBut, GiveEach, GivesSource, MayStopAt};
+ghost use Rattle.source_files.specs.Unread.{at_path};
 
 use crate::load_fault::LoadFault;
 use crate::phases::run_anyway;
@@ -34,7 +35,7 @@ pub(crate) fn path_below(alloc: Global, root: &str, path: &str) -> Result<String
 pub(crate) enum ReadSource {
     /// The source.
     Held(Source),
-    /// It can't be read and is left out: its path.
+    /// It can't be read and is left out, so that it stands among the files by its path alone.
     LeftOut(String),
 }
 
@@ -64,7 +65,11 @@ fn source_below<F: ReadFiles>(
 {
     let path = String::from_str(alloc, path)?;
     match read_below(alloc, files, root, path.as_str())? {
-        Some(bytes) => Ok(ReadSource::Held(Source { path, bytes })),
+        Some(bytes) => Ok(ReadSource::Held(Source {
+            path,
+            bytes,
+            is_unread: false,
+        })),
         None if leaves_out => Ok(ReadSource::LeftOut(path)),
         None => Err(LoadFault::Unreadable(path)),
     }
@@ -135,15 +140,35 @@ fn read_part<R: Threads + Wait, G: Gate, F: ReadFiles + Sync>(
     }
 }
 
+/// The file with a path that can't be read.
+pub(crate) fn unread_at(alloc: Global, path: &str) -> Result<Source, AllocError>
+    ensures { IfOk result (λ source. source ≡ unread_file path.now) }
+{
+    let path = String::from_str(alloc, path)?;
+    Ok(Source {
+        path,
+        bytes: Vec::new(alloc),
+        is_unread: true,
+    })
+}
+
+/// Adds a source that can't be read.
+fn add_unread(alloc: Global, below: &mut RootFiles, path: &str) -> Result<(), AllocError>
+    ensures files { OnOk result (below.new.files ≡ below.old.files ++ unread_file path.now ∷ []) }
+    ensures unread { OnOk result (below.new.unread ≡ below.old.unread ++ at_path path.now ∷ []) }
+{
+    below.files.push(unread_at(alloc, path)?)?;
+    below.unread.push(entry_at(alloc, path)?)?;
+    Ok(())
+}
+
 /// Adds what reading a source gave.
 fn add_one(below: &mut RootFiles, read: ReadSource) -> Result<(), AllocError>
     ensures { OnOk result (AddsRead (read ∷ []) below.old below.new) }
 {
     match read {
         ReadSource::Held(source) => below.files.push(source)?,
-        ReadSource::LeftOut(path) => below
-            .unread
-            .push(entry_at(*path.allocator(), path.as_str())?)?,
+        ReadSource::LeftOut(path) => add_unread(*path.allocator(), below, path.as_str())?,
     }
     Ok(())
 }
@@ -167,8 +192,8 @@ pub(crate) fn part_of(paths: &[String]) -> (&[String], &[String])
     paths.split_at(paths.len().min(MAX_INPUTS))
 }
 
-/// The sources with these paths below a root, read in parts of so many as a phase has inputs, but those that are left
-/// out.
+/// The sources with these paths below a root, read in parts of so many as a phase has inputs, and which of them are
+/// left out.
 pub(crate) fn read_each<R: Threads + Wait, G: Gate, F: ReadFiles + Sync>(
     readers: &Readers<'_, R, G, F>,
     root: &str,

@@ -9,9 +9,9 @@ use std::marker::Model;
 /// Contracts see its files, and what is left out.
 #[derive(Debug, Drop)]
 pub struct RootFiles {
-    /// The sources, by path.
+    /// The sources, by path; those that are left out without what they hold.
     pub files: Vec<Source>,
-    /// What is left out since it can't be read, by its path below the root.
+    /// What is left out since it can't be read, by its path below the root, be it a source or not.
     pub unread: Vec<UnreadEntry>,
 }
 

@@ -1,8 +1,8 @@
 //! Which of the files that were read are taken.
 
-ghost use Rattle.std.specs.Prelude.{◌≡◌, ◌↔◌, [], ◌∷◌, true, IfOk, IsTrue, OnOk, map};
+ghost use Rattle.std.specs.Prelude.{◌≡◌, ◌↔◌, [], ◌∷◌, ◌++◌, true, IfOk, IsTrue, OnOk, map};
 ghost use Rattle.source_tree.specs.Path.{IsGoodPath};
-ghost use Rattle.source_files.specs.Taken.{AddsTaken};
+ghost use Rattle.source_files.specs.Taken.{AddsTaken, bad_of};
 ghost use Rattle.source_files.specs.Unread.{unread_of};
 
 use crate::unread_entry::{UnreadEntry, entry_at_bad};
@@ -14,6 +14,17 @@ fn is_taken(leaves_out: bool, file: &Source) -> bool
     ensures { IsTrue result ↔ (leaves_out ≡ true → IsGoodPath file.now.path) }
 {
     !leaves_out || is_good_path(file.path.as_str())
+}
+
+/// Tells of a file that isn't taken, unless it can't be read and so is told already.
+fn tell_bad(alloc: Global, file: &Source, unread: &mut Vec<UnreadEntry>) -> Result<(), AllocError>
+    ensures { OnOk result (map unread_of unread.new.items ≡ map unread_of unread.old.items ++ bad_of file.now) }
+{
+    if file.is_unread {
+        return Ok(());
+    }
+    unread.push(entry_at_bad(alloc, file.path.as_str())?)?;
+    Ok(())
 }
 
 /// Adds a file to those that are taken, or to what isn't read.
@@ -30,7 +41,7 @@ fn take_one(
     if is_taken(leaves_out, &file) {
         taken.push(file)?;
     } else {
-        unread.push(entry_at_bad(alloc, file.path.as_str())?)?;
+        tell_bad(alloc, &file, unread)?;
     }
     Ok(())
 }

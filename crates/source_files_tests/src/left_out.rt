@@ -22,11 +22,12 @@ struct Said<'a, F> {
 }
 
 /// Files that are said to be there: the root, the folder and the name of each.
-const FILES: [(&str, &str, &str); 10] = [
+const FILES: [(&str, &str, &str); 11] = [
     ("names", "", "a.proto"),
     ("locks", "", "a.proto"),
     ("gone", "", "gone.proto"),
     ("gone", "", "a.proto"),
+    ("there", "", "gone.proto"),
     ("all", "", "gone.proto"),
     ("all", "", "a.proto"),
     ("all", "deep/", "b.proto"),
@@ -180,16 +181,16 @@ fn add_unread(text: &mut String, unread: &[UnreadEntry]) -> Result<(), AllocErro
     Ok(())
 }
 
-/// Adds the paths of the files of a tree.
+/// Adds the paths of the files of a tree, each with `?` behind it if it couldn't be read.
 fn add_tree(text: &mut String, tree: &Tree) -> Result<(), AllocError> {
     for number in 0..tree.file_count() {
         text.push_str(tree.path(number))?;
-        text.push(' ')?;
+        text.push_str(if tree.is_unread(number) { "? " } else { " " })?;
     }
     Ok(())
 }
 
-/// The paths of sources, and behind a stroke what is left out.
+/// The paths of sources, each with `?` behind it if it couldn't be read, and behind a stroke what is left out.
 fn text_of_files(
     alloc: Global,
     files: &[Source],
@@ -284,12 +285,12 @@ const READ: [(&str, bool, &str); 10] = [
     ("locks", false, "locks: Unreadable"),
     ("locks", true, "a.proto | locked/ "),
     ("gone", false, "gone.proto: Unreadable"),
-    ("gone", true, "a.proto | gone.proto "),
+    ("gone", true, "a.proto gone.proto? | gone.proto "),
     ("all", false, "all: Unreadable"),
     (
         "all",
         true,
-        "a.proto deep/b.proto | \\xe9.proto deep/\\xff locked/ gone.proto ",
+        "a.proto deep/b.proto gone.proto? | \\xe9.proto deep/\\xff locked/ gone.proto ",
     ),
     ("nowhere", false, "nowhere: Unreadable"),
     ("nowhere", true, "nowhere: Unreadable"),
@@ -299,22 +300,29 @@ const READ: [(&str, bool, &str); 10] = [
 type Row = (&'static str, &'static str, &'static str);
 
 // The folders of `names` and `all` are said to be one, and those of `alike` and `other` two.
-const TREES: [Row; 8] = [
+const TREES: [Row; 10] = [
     (
         "all",
         "all",
-        "a.proto deep/b.proto | \\xe9.proto deep/\\xff gone.proto locked/ ",
+        "a.proto deep/b.proto gone.proto? | \\xe9.proto deep/\\xff gone.proto locked/ ",
     ),
-    ("gone", "names", "a.proto | \\xe9.proto gone.proto "),
+    (
+        "gone",
+        "names",
+        "a.proto gone.proto? | \\xe9.proto gone.proto ",
+    ),
+    // Of one path, the first counts, be it one that can't be read.
+    ("gone", "there", "a.proto gone.proto? | gone.proto "),
+    ("there", "gone", "gone.proto a.proto | gone.proto "),
     (
         "locks",
         "all",
-        "a.proto deep/b.proto | \\xe9.proto deep/\\xff gone.proto locked/ ",
+        "a.proto deep/b.proto gone.proto? | \\xe9.proto deep/\\xff gone.proto locked/ ",
     ),
     (
         "names",
         "all",
-        "a.proto deep/b.proto | \\xe9.proto deep/\\xff gone.proto locked/ ",
+        "a.proto deep/b.proto gone.proto? | \\xe9.proto deep/\\xff gone.proto locked/ ",
     ),
     (
         "alike",
@@ -331,16 +339,17 @@ const EACH: [Row; 2] = [
     (
         "gone",
         "all",
-        "a.proto deep/b.proto | \\xe9.proto deep/\\xff gone.proto locked/ | a.proto | a.proto deep/b.proto ",
+        "a.proto gone.proto? deep/b.proto | \\xe9.proto deep/\\xff gone.proto locked/ | a.proto gone.proto | a.proto deep/b.proto gone.proto ",
     ),
     ("locks", "nowhere", "nowhere: Unreadable"),
 ];
 
 /// What can be read of all that is said to be there.
-const MADE: [&str; 8] = [
+const MADE: [&str; 9] = [
     "names/a.proto",
     "locks/a.proto",
     "gone/a.proto",
+    "there/gone.proto",
     "all/a.proto",
     "all/deep/b.proto",
     "alike/a.proto",
@@ -349,7 +358,9 @@ const MADE: [&str; 8] = [
 ];
 
 /// The folders of that.
-const PLACES: [&str; 7] = ["names", "locks", "gone", "all", "all/deep", "alike", "bad"];
+const PLACES: [&str; 8] = [
+    "names", "locks", "gone", "there", "all", "all/deep", "alike", "bad",
+];
 
 /// Removes what is made.
 fn remove_all<S: Files + AllocGlobal>(system: &S) {

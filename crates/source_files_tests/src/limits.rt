@@ -14,6 +14,7 @@ fn nameless(alloc: Global, count: usize) -> Result<Vec<Source>, AllocError> {
         let file = Source {
             path: String::new(alloc),
             bytes: Vec::new(alloc),
+            is_unread: false,
         };
         files.push(file)?;
     }
@@ -63,6 +64,7 @@ fn numbered(alloc: Global, count: usize) -> Result<Vec<Source>, AllocError> {
         let file = Source {
             path: format!(in alloc; "{:05}.proto", count - number)?,
             bytes: Vec::new(alloc),
+            is_unread: false,
         };
         files.push(file)?;
     }

@@ -35,7 +35,13 @@ fn mended_once(alloc: Global, bytes: &[u8]) -> Result<Option<Tree>, AllocError> 
     let path = String::from_str(alloc, "a.proto")?;
     let mut held = Vec::new(alloc);
     held.extend_from_slice(bytes)?;
-    let sources = vec![in alloc; Source { path, bytes: held }]?;
+    let sources = vec![in alloc;
+        Source {
+            path,
+            bytes: held,
+            is_unread: false
+        },
+    ]?;
     match tree_of(alloc, sources, Vec::new(alloc)) {
         Some(tree) => Ok(Some(tree.mended(alloc)?)),
         None => Ok(None),

@@ -21,7 +21,7 @@ pub(crate) fn listing(alloc: Global, sources: &[Source]) -> Result<String, Alloc
     let mut text = String::new(alloc);
     for source in sources {
         text.push_str(source.path.as_str())?;
-        text.push(' ')?;
+        text.push_str(if source.is_unread { "? " } else { " " })?;
     }
     Ok(text)
 }

@@ -14,12 +14,15 @@ line_of file = before_first (λ byte. byte == 10) file
 abbrev pub text_of : List ℕ → List ℕ
 text_of file = after_first (λ byte. byte == 10) file
 
--- `+` and `-`, the marks in front of the path in such a line
+-- `+`, `-` and `?`, the marks in front of the path in such a line
 abbrev pub plus : ℕ
 plus = 43
 
 abbrev pub minus : ℕ
 minus = 45
+
+abbrev pub question : ℕ
+question = 63
 
 abbrev pub is_marked : ℕ → List ℕ → Bool
 is_marked mark [] = false
@@ -31,11 +34,17 @@ without_mark mark (byte ∷ line) = cond (byte == mark) line (byte ∷ line)
 
 -- the path in such a line
 abbrev pub path_in : List ℕ → List ℕ
-path_in line = cond (is_marked plus line) (without_mark plus line) (without_mark minus line)
+path_in line =
+    cond (is_marked plus line) (without_mark plus line)
+    (cond (is_marked question line) (without_mark question line) (without_mark minus line))
 
 -- the file of a text
 abbrev pub source_in : List ℕ → SourceFile
-source_in file = record { path = path_in (line_of file); bytes = text_of file }
+source_in file = record {
+  path = path_in (line_of file);
+  bytes = text_of file;
+  is_unread = is_marked question (line_of file);
+}
 
 -- the texts of files: what stands between one `|` and the next
 abbrev pub files_of : List ℕ → List (List ℕ)

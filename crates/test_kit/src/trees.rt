@@ -1,6 +1,6 @@
 //! Trees of files as texts. Each file has a line with its path, which has a `+` in front where the file is included, and
-//! a `-` where it is left out of what is linked, and then its text; behind each file, but that the last may lack it,
-//! stands `|`. An empty text is none.
+//! a `-` where it is left out of what is linked, or a `?` where it couldn't be read, and then its text; behind each
+//! file, but that the last may lack it, stands `|`. An empty text is none.
 
 ghost use Rattle.std.specs.Prelude.{ℕ, List, [], ◌∷◌, ◌++◌, ◌≡◌, ◌<◌, true, false, IfOk, OnOk, MatchOption, map};
 ghost use denote.Ref.{Bor};
@@ -15,6 +15,7 @@ ghost use Rattle.test_kit.specs.Trees.{
   minus,
   path_in,
   plus,
+  question,
   source_in,
   text_of,
   without_mark,
@@ -34,6 +35,8 @@ pub struct FileText<'a> {
     pub is_included: bool,
     /// Whether it is left out of what is linked.
     pub is_left_out: bool,
+    /// Whether it couldn't be read.
+    pub is_unread: bool,
 }
 
 /// What stands behind a mark at the front of a line.
@@ -58,15 +61,18 @@ pub fn file_text(file: &str) -> FileText<'_>
     ensures text { result.text.now ≡ text_of file.now }
     ensures included { result.is_included ≡ is_marked plus (line_of file.now) }
     ensures left_out { result.is_left_out ≡ is_marked minus (line_of file.now) }
+    ensures unread { result.is_unread ≡ is_marked question (line_of file.now) }
 {
     let (line, text) = first_line(file);
     let included = behind(line, '+');
     let left_out = behind(line, '-');
+    let unread = behind(line, '?');
     FileText {
-        path: included.or(left_out).unwrap_or(line),
+        path: included.or(unread).or(left_out).unwrap_or(line),
         text,
         is_included: included.is_some(),
         is_left_out: left_out.is_some(),
+        is_unread: unread.is_some(),
     }
 }
 
@@ -77,7 +83,11 @@ fn add(alloc: Global, found: &mut Vec<Source>, text: &str) -> Result<(), AllocEr
     let file = file_text(text);
     let path = String::from_str(alloc, file.path)?;
     let bytes = Vec::from_slice(alloc, file.text.as_bytes())?;
-    found.push(Source { path, bytes })?;
+    found.push(Source {
+        path,
+        bytes,
+        is_unread: file.is_unread,
+    })?;
     Ok(())
 }
 

@@ -5,6 +5,7 @@ Needs python3 alone.
 """
 
 import re
+from ast import literal_eval
 
 TOKEN = re.compile(r"(?P<gap>\s+|//[^\n]*|/\*.*?\*/)|(?P<word>[A-Za-z_]\w*)|(?P<number>\.?\d(?:[eE][+-]|[\w.])*)"
                    r"|(?P<text>\"(?:\\.|[^\"\\\n])*\"|'(?:\\.|[^'\\\n])*')|(?P<sign>.)", re.S)
@@ -27,10 +28,11 @@ def joined(scope, name):
 
 class Name:
     """A name in an option: its role (`field`, `extension`, `packed`, `elsewhere` or `value`), the number of the name
-    that it belongs to, whether a dot leads, and its words with their offsets."""
+    that it belongs to, whether a dot leads, its words with their offsets, and whether it is that of a message for its
+    extension of a message set."""
 
     def __init__(self, role, owner, has_dot, words, start):
-        self.role, self.owner, self.has_dot, self.start = role, owner, has_dot, start
+        self.role, self.owner, self.has_dot, self.start, self.is_type = role, owner, has_dot, start, False
         self.words, self.places = [word for word, _ in words], [at for _, at in words]
 
 
@@ -44,14 +46,15 @@ class Option:
 
 
 class Declaration:
-    """What is declared: its kind, its full name, its symbol behind the scheme, and of a field its type, what it
-    extends, whether it is a map, and the message of a group."""
+    """What is declared: its kind, its full name, its symbol behind the scheme; of a field its type, what it extends,
+    whether it is a map, and the message of a group; and of a message the names that it reserves, and whether it is a
+    message set."""
 
     def __init__(self, source, kind, scope, front, name):
         self.source, self.kind, self.full_name = source, kind, joined(scope, name)
         self.symbol = front + name + ENDS[kind]
         self.outer = self.type = self.extended = self.group = None
-        self.is_map = False
+        self.is_map, self.reserved, self.is_set = False, set(), False
 
 
 class TypeUse:
@@ -61,12 +64,32 @@ class TypeUse:
         self.scope, self.has_dot, self.words = scope, has_dot, words
 
 
+def heard(tokens):
+    """The tokens that are in no comment of a `#`: such a one begins right in the braces behind a `=`, and ends before
+    the brace that closes them."""
+    kept, values, depth = [], [], None
+    for kind, text, start in tokens:
+        opens, closes = ((kind, text) == ("sign", sign) for sign in "{}")
+        if depth is not None and (depth or not closes):
+            depth += opens - closes
+        elif (kind, text) == ("sign", "#") and values and values[-1]:
+            depth = 0
+        else:
+            depth = None
+            if opens:
+                values.append(bool(kept) and kept[-1][1] == "=")
+            elif closes and values:
+                values.pop()
+            kept.append((kind, text, start))
+    return kept
+
+
 class Reader:
     """Tokens, taken one after the other."""
 
     def __init__(self, text):
         found = [(match.lastgroup, match[0], match.start()) for match in TOKEN.finditer(text)]
-        self.tokens = [token for token in found if token[0] != "gap"]
+        self.tokens = heard(token for token in found if token[0] != "gap")
         self.text, self.at, self.end = text, 0, len(text)
 
     def peek(self, further=0):
@@ -256,6 +279,16 @@ class Source(Reader):
         while self.take()[1] != ";":
             pass
 
+    def reserved(self):
+        """The names in a reserved statement."""
+        names = [""]
+        while self.take()[1] != ";":
+            if self.is_kind("text"):
+                names[-1] += literal_eval(self.peek()[1])
+            elif self.sees(","):
+                names.append("")
+        return set(names) - {""}
+
     def type_use(self, scope):
         if self.peek()[1] in SCALARS and not self.peek(1)[1] == ".":
             self.take()
@@ -274,9 +307,13 @@ class Source(Reader):
             return
         if word == "option" and within != "Extend":
             self.take()
+            if within == "Message" and self.sees("message_set_wire_format", "=", "true"):
+                outer.is_set = True
             self.note(within, outer_scope)
             self.take(";")
-        elif within == "File" and word in ("syntax", "package") or within in ("Message", "Enum") and word == "reserved":
+        elif within == "Message" and word == "reserved":
+            outer.reserved |= self.reserved()
+        elif within == "File" and word in ("syntax", "package") or within == "Enum" and word == "reserved":
             self.pass_statement()
         elif within == "File" and word == "import":
             self.take()

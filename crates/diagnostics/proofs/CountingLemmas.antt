@@ -2,10 +2,9 @@
 use Rattle.std.proofs.Common.{◌≡◌, ap, refl, sym, ℕ, ◌+◌, ◌-◌, ◌≤◌, ◌<◌, Bool, true, false, cond, not}
 use Rattle.std.proofs.Common.{List, [], ◌∷◌, length, take, drop, ◌++◌, arith, get_or, length-append}
 use Rattle.std.specs.List.{after_last, count_by, onto_first, suffix_len}
-use Rattle.std.proofs.Math.ListN.{drop_of_length-le}
 use Rattle.std.proofs.Math.Numerals.{one-add}
 use Rattle.std.proofs.lemmas.List.{reverse-append, drop-append-le, take_more}
-use Rattle.std.proofs.lemmas.List.Sums.{count_by_more_no, count_by_more_yes, suffix_len-le-length, sum_by-cons}
+use Rattle.std.proofs.lemmas.List.Sums.{count_by_more_no, suffix_len-le-length, sum_by-cons}
 use Rattle.std.proofs.lemmas.List.Sums.{sum_by_push}
 use Rattle.proto_lex.specs.Position.{is_line_end, line_before}
 use Rattle.diagnostics.specs.Characters.{characters, goes_on}
@@ -76,10 +75,6 @@ pushed_kept xs s y fits =
     let k : length (xs ++ y ∷ []) - (1 + s) ≡ length xs - s = omega (arith, length-append xs (y ∷ [])) in
     rw k (drop-append-le (length xs - s) xs (y ∷ []) (omega arith))
 
--- the line begins anew behind a line end
-line_anew : (xs : List ℕ) (y : ℕ) → is_line_end y ≡ true → after_last is_line_end (xs ++ y ∷ []) ≡ []
-line_anew xs y e = rw (reverse-append xs (y ∷ []), e) (drop_of_length-le (xs ++ y ∷ []) (omega arith))
-
 -- and goes on with any other byte
 line_goes_on : (xs : List ℕ) (y : ℕ) → is_line_end y ≡ false
     → after_last is_line_end (xs ++ y ∷ []) ≡ after_last is_line_end xs ++ y ∷ []
@@ -89,25 +84,6 @@ line_goes_on xs y e =
     (suffix_len-le-length (λ x. not (is_line_end x)) xs))
 
 -- ---- places
-
-pub counted_start : (text : List ℕ) → IsCounted text 0 1 1
-counted_start text = record {
-  within = omega arith;
-  line_is = refl;
-  column_is = refl;
-  few_lines = omega arith;
-  few_columns = omega arith;
-}
-
-pub counted_anew : (text : List ℕ) (at line col : ℕ) → IsCounted text at line col → at < length text
-    → is_line_end (get_or text at 0) ≡ true → IsCounted text (at + 1) (line + 1) 1
-counted_anew text at line col so more e = record {
-  within = omega (arith, more);
-  line_is = omega (arith, so.line_is, count_by_more_yes is_line_end text at 0 more e);
-  column_is = rw (take_more text at 0 more, line_anew (take at text) (get_or text at 0) e) refl;
-  few_lines = omega (arith, so.few_lines);
-  few_columns = omega arith;
-}
 
 pub counted_same : (text : List ℕ) (at line col : ℕ) → IsCounted text at line col → at < length text
     → is_line_end (get_or text at 0) ≡ false → 1 < col → goes_on (get_or text at 0) ≡ true

@@ -6,7 +6,7 @@ ghost use Rattle.proto_lex.specs.Text.{IsText};
 ghost use Rattle.proto_parse.specs.FaultNames.{syntax_offset};
 ghost use Rattle.diagnostics.specs.Answers.{IsAnswer};
 
-use proto_lex::{LexFault, Text, lex};
+use proto_lex::{LexFault, Text, lex_with};
 use proto_parse::{Dialect, SyntaxFault, parse_with};
 use std::alloc::{AllocError, Global};
 
@@ -39,7 +39,7 @@ fn answer_about(
     requires { IsText text.now }
     ensures { IfOk result (IsAnswer dialect text.now) }
 {
-    let lexed = match lex(alloc, text) {
+    let lexed = match lex_with(alloc, text, dialect.hashes()) {
         Ok(lexed) => lexed,
         Err(fault) => return Ok(Some(lex_place(fault)?)),
     };

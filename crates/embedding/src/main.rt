@@ -49,7 +49,11 @@ fn tree_in_memory(alloc: Global) -> Result<Tree> {
         let path = String::from_str(alloc, *path)?;
         let mut bytes = Vec::new(alloc);
         bytes.extend_from_slice(text.as_bytes())?;
-        sources.push(Source { path, bytes })?;
+        sources.push(Source {
+            path,
+            bytes,
+            is_unread: false,
+        })?;
     }
     match Tree::new(alloc, sources) {
         Ok(tree) => Ok(tree),

@@ -10,8 +10,8 @@ use Rattle.protoscip.specs.Dump.{IsTreeOfFault, IsTreeOfSource, dump_tree}
 use Rattle.protoscip.specs.Explanations.{IsFaultText}
 use Rattle.protoscip.specs.FaultTexts.{status_of}
 use Rattle.protoscip.specs.declared.fault.Fault.{Fault}
-use Rattle.protoscip.specs.declared.fault.Fault.TheVariants.{Spawn, Memory, Lex, Syntax, Duplicate, MissingImport}
-use Rattle.protoscip.specs.declared.fault.Fault.TheVariants.{Unresolved, Ambiguous, OptionGap, Uncertain}
+use Rattle.protoscip.specs.declared.fault.Fault.TheVariants.{Spawn, Memory, Unread, Lex, Syntax, Duplicate}
+use Rattle.protoscip.specs.declared.fault.Fault.TheVariants.{MissingImport, Unresolved, Ambiguous, OptionGap, Uncertain}
 use Rattle.protoscip.specs.declared.fault.Fault.TheVariants.{TooLarge, Write, Read, Answer}
 use Rattle.programs.specs.Dumping.{EndsDump, IsTreeOfDump, is_write}
 use Rattle.programs.specs.Messages.{TellsOne}
@@ -50,6 +50,7 @@ module _ {R M : Type 0} (dialect : Dialect) (explain : Option Dialect) (closed :
   of_fault Memory tree is said_so =
       record { some = ([], (tree, tt, said_so)); told = λ bytes known. (tree, tt, said_so) }
   of_fault Spawn tree is said_so = of_source Spawn tree (λ kept read. read) is said_so
+  of_fault (Unread number) tree is said_so = of_source (Unread number) tree (λ kept read. read) is said_so
   of_fault (Lex number e) tree is said_so = of_source (Lex number e) tree (λ kept read. read) is said_so
   of_fault (Syntax number e) tree is said_so = of_source (Syntax number e) tree (λ kept read. read) is said_so
   of_fault (Duplicate first second) tree is said_so =

@@ -7,13 +7,14 @@ use Rattle.std.proofs.lemmas.Option.{same_Some}
 use Rattle.std.proofs.Math.Logic.{⊎_elim}
 use Rattle.proto_lex.specs.Text.{IsNoText, IsText}
 use Rattle.proto_lex.specs.Lexed.{Lexed}
-use Rattle.proto_lex.specs.Faults.{IsFirstFault}
+use Rattle.proto_lex.specs.Faults.{IsFirstFaultWith}
 use Rattle.proto_lex.specs.declared.fault.LexFault.{LexFault}
 use Rattle.proto_lex.specs.declared.fault.LexFault.TheVariants as lexing
 use Rattle.proto_parse.specs.dialect.Dialect.{Dialect}
 use Rattle.proto_parse.specs.dialect.Dialect.TheVariants.{All, Proto3}
 use Rattle.proto_parse.specs.fault.SyntaxFault.{SyntaxFault}
 use Rattle.proto_parse.specs.fault.SyntaxFault.TheVariants as parsing
+use Rattle.proto_parse.specs.Syntax.{hashes_in}
 use Rattle.proto_parse.specs.tree.File.{File}
 use Rattle.proto_parse.specs.Derives.{Derives}
 use Rattle.proto_parse.specs.Refused.{HasFault}
@@ -37,26 +38,26 @@ module _ (dialect : Dialect) (text : List ℕ) (found : List Import) (none : fou
   pub of_no_text : (fault : LexFault) → (fault ≡ lexing.Memory) ⊎ IsNoText text fault → fault ≢ lexing.Memory
       → TellsText dialect text found
   of_no_text fault may real =
-      ⊎_elim (λ lacks. absurd (real lacks)) (λ bad. nothing (of_fault (Lex fault) (inl bad))) may
+      ⊎_elim (λ lacks. absurd (real lacks)) (λ bad. nothing (of_fault (Lex fault) (refl, inl bad))) may
 
   -- a text without a lexing
-  pub of_unlexed : (fault : LexFault) → IsText text → (fault ≡ lexing.Memory) ⊎ IsFirstFault text fault
+  pub of_unlexed : (fault : LexFault) → IsText text → (fault ≡ lexing.Memory) ⊎ IsFirstFaultWith (hashes_in dialect) text fault
       → fault ≢ lexing.Memory → TellsText dialect text found
   of_unlexed fault is may real =
-      ⊎_elim (λ lacks. absurd (real lacks)) (λ bad. nothing (of_fault (Lex fault) (inr (is, bad)))) may
+      ⊎_elim (λ lacks. absurd (real lacks)) (λ bad. nothing (of_fault (Lex fault) (refl, inr (is, bad)))) may
 
   -- a lexing without a tree
-  pub of_unparsed : (lexed : Lexed) (fault : SyntaxFault) → HasLexing text lexed
+  pub of_unparsed : (lexed : Lexed) (fault : SyntaxFault) → HasLexing dialect text lexed
       → (fault ≡ parsing.Memory) ⊎ HasFault dialect lexed.text lexed.tokens fault → fault ≢ parsing.Memory
       → TellsText dialect text found
   of_unparsed lexed fault is_lexed may real =
       ⊎_elim (λ lacks. absurd (real lacks))
-      (λ bad. nothing (of_fault (Syntax fault) (record { lexed = lexed; lexing = is_lexed; has_fault = bad })))
+      (λ bad. nothing (of_fault (Syntax fault) (refl, record { lexed = lexed; lexing = is_lexed; has_fault = bad })))
       may
 
 -- a tree
 pub of_parsed : (dialect : Dialect) (text : List ℕ) (lexed : Lexed) (tree : File) (all : List Imported)
-    (found : List Import) → HasLexing text lexed → Derives dialect lexed.text lexed.tokens tree
+    (found : List Import) → HasLexing dialect text lexed → Derives dialect lexed.text lexed.tokens tree
     → all ≡ imports_of lexed.text tree.imports → found ≡ map import_of all → TellsText dialect text found
 of_parsed dialect text lexed tree all found is_lexed derives are is =
     subst (TellsText dialect text) (sym (is ∙ ap (map import_of) are)) (of_tree is_lexed derives)

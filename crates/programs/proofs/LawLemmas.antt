@@ -10,7 +10,7 @@ use Rattle.programs.specs.Folders.{IsLoadedFrom}
 use Rattle.programs.specs.OptionLaws.{HeadlineOfFiles}
 use Rattle.programs.specs.Settings.{allowed_by, settings_in}
 use Rattle.source_files.specs.Listings.{Listing}
-use Rattle.source_files.specs.ListedTrees.{files_of as told_files}
+use Rattle.source_files.specs.ListedTrees.{files_with}
 use Rattle.source_files.specs.Unread.{Unread}
 use Rattle.source_tree.specs.Files.{TreeFile}
 use Rattle.source_tree.specs.Trees.{IsTree}
@@ -25,7 +25,7 @@ module _ (lists : List ℕ → List ℕ → Option Listing → Type 0) (gives : 
       tree_of_files of.holds.0.sources of.holds.0.included files of.holds.0.holds.0
   tree_loaded (Some list) files own others unread of =
       let seen = of.2.holds in
-      tree_of_files (told_files of.2.sources) (told_files seen.included) files seen.holds.tree_is
+      tree_of_files (files_with of.2.sources of.2.lost) (files_with seen.included seen.left) files seen.holds.tree_is
 
   pub headline_of_files : LawsOfNames → HeadlineOfFiles lists gives finds options
   headline_of_files laws tree unread ids folders =

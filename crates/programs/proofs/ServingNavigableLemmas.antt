@@ -15,8 +15,8 @@ use Rattle.source_files.specs.declared.load_fault.LoadFault.TheVariants.{Unreada
 use Rattle.source_files.specs.declared.load_fault.LoadFault.TheVariants as load
 use Rattle.protoscip.specs.FaultTexts.{lex_text, status_of, syntax_text}
 use Rattle.protoscip.specs.declared.fault.Fault.{Fault}
-use Rattle.protoscip.specs.declared.fault.Fault.TheVariants.{Spawn, Memory, Lex, Syntax, Duplicate, MissingImport}
-use Rattle.protoscip.specs.declared.fault.Fault.TheVariants.{Unresolved, Ambiguous, OptionGap, Uncertain}
+use Rattle.protoscip.specs.declared.fault.Fault.TheVariants.{Spawn, Memory, Unread, Lex, Syntax, Duplicate}
+use Rattle.protoscip.specs.declared.fault.Fault.TheVariants.{MissingImport, Unresolved, Ambiguous, OptionGap, Uncertain}
 use Rattle.protoscip.specs.declared.fault.Fault.TheVariants.{TooLarge, Write, Read, Answer}
 use Rattle.programs.specs.Indexing.{Indexed, WritesNavigable, into_part, too_poor}
 use Rattle.programs.specs.Indexing as indexing
@@ -66,6 +66,7 @@ fails Spawn = tt
 fails Memory = tt
 fails (Lex number fault) = lex_fails fault
 fails (Syntax number fault) = syntax_fails fault
+fails (Unread number) = tt
 fails (Duplicate first second) = tt
 fails (MissingImport place) = tt
 fails (Unresolved place) = tt

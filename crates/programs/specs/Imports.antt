@@ -1,5 +1,5 @@
 -- What files import, as they are read in a dialect (proto3 specification, "Import statement").
-use Rattle.std.specs.Prelude.{◌≡◌, ℕ, List, [], ◌∷◌, map}
+use Rattle.std.specs.Prelude.{◌≡◌, ℕ, false, List, [], ◌∷◌, map}
 use Rattle.proto_parse.specs.dialect.Dialect.{Dialect}
 use Rattle.proto_parse.specs.dialect.Dialect.TheVariants.{Proto3, All}
 use Rattle.proto_parse.specs.tree.File.{File}
@@ -19,9 +19,9 @@ import_of imported = record { path = imported.path; is_public = is_public import
 
 -- what a text imports: nothing if it can't be read
 pub data TellsText (dialect : Dialect) (text : List ℕ) : List Import → Type 0 where
-  of_tree : {lexed : Lexed} {tree : File} → HasLexing text lexed → Derives dialect lexed.text lexed.tokens tree
+  of_tree : {lexed : Lexed} {tree : File} → HasLexing dialect text lexed → Derives dialect lexed.text lexed.tokens tree
       → TellsText dialect text (map import_of (imports_of lexed.text tree.imports))
-  of_fault : (fault : FileFault) → IsUnreadable dialect text fault → TellsText dialect text []
+  of_fault : (fault : FileFault) → IsUnreadable dialect false text fault → TellsText dialect text []
 
 -- what is read of bytes in a dialect
 abbrev pub IsReadIn : Dialect → (bytes text : List ℕ) → Type 0

@@ -21,8 +21,8 @@ use Rattle.protoscip.specs.ToldTrees.{IsToldOf, MayNotTell}
 use Rattle.protoscip.specs.FaultTexts.{status_of}
 use Rattle.protoscip.specs.declared.recorded.Recorded.{Recorded}
 use Rattle.protoscip.specs.declared.fault.Fault.{Fault}
-use Rattle.protoscip.specs.declared.fault.Fault.TheVariants.{Spawn, Memory, Lex, Syntax, Duplicate, MissingImport}
-use Rattle.protoscip.specs.declared.fault.Fault.TheVariants.{Unresolved, Ambiguous, OptionGap, Uncertain}
+use Rattle.protoscip.specs.declared.fault.Fault.TheVariants.{Spawn, Memory, Unread, Lex, Syntax, Duplicate}
+use Rattle.protoscip.specs.declared.fault.Fault.TheVariants.{MissingImport, Unresolved, Ambiguous, OptionGap, Uncertain}
 use Rattle.protoscip.specs.declared.fault.Fault.TheVariants.{TooLarge, Write, Read, Answer}
 use Rattle.protoscip.specs.Unread.{PathUnread}
 use Rattle.command_line.specs.declared.options.limits.Limits.{Limits}
@@ -46,6 +46,7 @@ ran_of told (Some fault) = Err fault
 abbrev pub is_of_files : Fault → Bool
 is_of_files Spawn = false
 is_of_files Memory = false
+is_of_files (Unread number) = true
 is_of_files (Lex number fault) = true
 is_of_files (Syntax number fault) = true
 is_of_files (Duplicate first second) = true

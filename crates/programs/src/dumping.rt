@@ -34,6 +34,7 @@ fn is_write(fault: &Fault) -> bool
         Fault::Write(_) => true,
         Fault::Spawn
         | Fault::Memory
+        | Fault::Unread(_)
         | Fault::Lex(..)
         | Fault::Syntax(..)
         | Fault::Duplicate(..)

@@ -8,7 +8,7 @@ ghost use Rattle.proto_visibility.specs.Files.{is_public};
 ghost use Rattle.programs.specs.Imports.{IsTreeOfOne, TellsIn, TellsText, import_of};
 
 use proto_decl::{Imported, declare};
-use proto_lex::{LexFault, Text, lex};
+use proto_lex::{LexFault, Text, lex_with};
 use proto_parse::{Dialect, ImportKind, SyntaxFault, parse_with};
 use scip_build::as_read;
 use source_files::{FindImports, FoundImport};
@@ -89,7 +89,7 @@ fn imports_of_text(
     requires { IsText text.now }
     ensures { IfOk result (λ imports. TellsText dialect text.now imports.items) }
 {
-    let lexed = match lex(alloc, text) {
+    let lexed = match lex_with(alloc, text, dialect.hashes()) {
         Ok(lexed) => lexed,
         Err(fault) => {
             let nothing = unlexed(alloc, fault)?;
@@ -131,7 +131,13 @@ fn tree_of(alloc: Global, dialect: Dialect, bytes: &[u8]) -> Result<Tree, AllocE
 {
     let path = String::from_str(alloc, "a.proto")?;
     let bytes = Vec::from_slice(alloc, bytes)?;
-    let files = vec![in alloc; Source { path, bytes }]?;
+    let files = vec![in alloc;
+        Source {
+            path,
+            bytes,
+            is_unread: false
+        },
+    ]?;
     match Tree::new(alloc, files) {
         Ok(tree) => {
             let read = as_read(alloc, dialect, tree)?;

@@ -17,6 +17,7 @@ use protoscip::OwnedText;
 use scip_join::{JoinChoices, JoinedIndex};
 use source_files::{LookAgain, OutPlace, ReadFiles};
 use std::alloc::{AllocError, Global};
+use std::mem::forget;
 use streams::{Failed, Sink};
 
 /// The project root that is asked for, if one is.
@@ -62,7 +63,7 @@ fn put<P: OutPlace>(alloc: Global, joined: &JoinedIndex, at: &mut P) -> Result<(
     }
 }
 
-/// Joins the indexes of files, and puts the join at its place.
+/// Joins the indexes of files, and puts the join at its place. The memory of the join isn't given back.
 #[tactic(auto, using(crate::proofs::JoiningRules::of_put))]
 fn join_into<R, F: ReadFiles, P: OutPlace>(
     host: &Host<'_, R, F>,
@@ -77,7 +78,10 @@ fn join_into<R, F: ReadFiles, P: OutPlace>(
 {
     let choices = choices_of(host.alloc, options)?;
     let joined = join_files(host.alloc, host.files, choices, options.indexes.as_slice())?;
-    put(host.alloc, &joined, at)
+    let done = put(host.alloc, &joined, at);
+    // What was read goes with the process.
+    forget(joined);
+    done
 }
 
 /// Reads the indexes that files hold, one after the other, writes their join to a part of its place, puts it there, and

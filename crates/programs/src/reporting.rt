@@ -86,7 +86,8 @@ fn is_of_files(fault: &Fault) -> bool
     ensures { result ≡ is_of_files fault.now }
 {
     match fault {
-        Fault::Lex(..)
+        Fault::Unread(_)
+        | Fault::Lex(..)
         | Fault::Syntax(..)
         | Fault::Duplicate(..)
         | Fault::MissingImport(_)

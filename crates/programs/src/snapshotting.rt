@@ -18,6 +18,7 @@ use scip_query::Queries;
 use scip_site::{Folders, ShowFault, file_all, print_all};
 use source_files::{Caused, LookAgain, MakeFiles, ReadFiles};
 use std::alloc::Global;
+use std::mem::forget;
 use streams::Sink;
 
 /// Gives the exit status. Why the documents aren't all shown, if they aren't, is said.
@@ -102,7 +103,7 @@ fn show<R, F: ReadFiles, W: Sink + Caused, O: MakeFiles, M: Sink>(
 
 /// Reads the index that files hold, prints the snapshots of its documents or makes a file of each, as the options
 /// say, and gives the exit status. It reports each document that is left out. If it stops early, it reports why, but of
-/// a pipe that is closed by its reader.
+/// a pipe that is closed by its reader. The memory of the index isn't given back.
 pub(crate) fn snapshot<R, F: ReadFiles + LookAgain, W: Sink + Caused, O: MakeFiles, M: Sink>(
     host: &Host<'_, R, F>,
     options: &SnapshotOptions,
@@ -115,7 +116,12 @@ pub(crate) fn snapshot<R, F: ReadFiles + LookAgain, W: Sink + Caused, O: MakeFil
 {
     let paths = options.indexes.as_slice();
     match queries_of(host.alloc, host.files, paths) {
-        Ok(queries) => show(host, options, &queries, out, made, messages),
+        Ok(queries) => {
+            let status = show(host, options, &queries, out, made, messages);
+            // What was read goes with the process.
+            forget(queries);
+            status
+        }
         Err(fault) => {
             let explain = options.explain;
             report_files(host, &fault, ToldBy::Other, paths, explain, messages)

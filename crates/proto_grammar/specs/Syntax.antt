@@ -1,7 +1,9 @@
 -- Dialects, and the grammar of one file.
 use Rattle.std.specs.Prelude.{Bool, true, false}
+use Rattle.proto_lex.specs.declared.hashes.Hashes.{Hashes}
+use Rattle.proto_lex.specs.declared.hashes.Hashes.TheVariants.{Nowhere, InValues}
 use Rattle.proto_grammar.specs.declared.dialect.CustomOptions.{CustomOptions}
-use Rattle.proto_grammar.specs.declared.dialect.CustomOptions.TheVariants.{Skip}
+use Rattle.proto_grammar.specs.declared.dialect.CustomOptions.TheVariants.{Refuse, Skip}
 use Rattle.proto_grammar.specs.declared.dialect.Dialect.{Dialect}
 use Rattle.proto_grammar.specs.declared.dialect.Dialect.TheVariants as dialect
 use Rattle.proto_grammar.specs.declared.dialect.Syntax.{Syntax}
@@ -17,6 +19,12 @@ custom_of Proto2 = Skip
 abbrev pub custom_in : Dialect → CustomOptions
 custom_in (dialect.Proto3 custom) = custom
 custom_in dialect.All = Skip
+
+-- Where a `#` begins a comment: in values in braces, where these are read past.
+abbrev pub hashes_in : Dialect → Hashes
+hashes_in (dialect.Proto3 Refuse) = Nowhere
+hashes_in (dialect.Proto3 Skip) = InValues
+hashes_in dialect.All = InValues
 
 -- The grammar of a proto3 file.
 abbrev pub proto3_in : Dialect → Syntax

@@ -1,7 +1,9 @@
 //! Which sources are accepted, and the grammar of one file.
 
 ghost use Rattle.std.specs.Prelude.{◌≡◌};
-ghost use Rattle.proto_grammar.specs.Syntax.{custom_of, is_all, is_proto2};
+ghost use Rattle.proto_grammar.specs.Syntax.{custom_of, hashes_in, is_all, is_proto2};
+
+use proto_lex::Hashes;
 
 /// What is done with custom options: option names with a part in parentheses, and aggregate values. The tree never
 /// holds them. If only proto3 is accepted, the same is done with `extend`.
@@ -30,6 +32,16 @@ impl Dialect {
         match self {
             Dialect::Proto3(_) => false,
             Dialect::All => true,
+        }
+    }
+
+    /// Where a `#` begins a comment in sources that are accepted.
+    pub fn hashes(self) -> Hashes
+        ensures { result ≡ hashes_in self }
+    {
+        match self {
+            Dialect::Proto3(CustomOptions::Refuse) => Hashes::Nowhere,
+            Dialect::Proto3(CustomOptions::Skip) | Dialect::All => Hashes::InValues,
         }
     }
 }

@@ -1,20 +1,22 @@
 -- The fault that a text meets first is the one that is read.
-use Rattle.std.proofs.Common.{◌≡◌, ◌≢◌, ℕ, ◌+◌, ◌<◌, Bool, true, false, not, cond, ◌||◌, ◌&&◌, ◌⊎◌, inl, inr, nat_eq}
-use Rattle.std.proofs.Common.{Option, Some, None, Ok, Err, List, [], ◌∷◌, ◌++◌, length, drop, refl, sym, ◌∙◌, ap, subst}
-use Rattle.std.proofs.Common.{arith, eqb-true}
+use Rattle.std.proofs.Common.{◌≡◌, ◌≢◌, ℕ, ◌+◌, ◌<◌, true, false, not, ◌⊎◌, inl, inr, nat_eq}
+use Rattle.std.proofs.Common.{Some, None, Ok, Err, List, [], ◌∷◌, ◌++◌, length, refl, sym, ◌∙◌}
+use Rattle.std.proofs.Common.{arith}
 use Rattle.std.proofs.lemmas.Bool.Decides.{nat_tests}
 use Rattle.std.proofs.lemmas.List.{drop_at, length-append}
-use Rattle.proto_lex.specs.Bytes.{is_blank, is_letter, is_digit, is_quote, starts}
-use Rattle.proto_lex.specs.Numbers.{IsInteger, IsFloat, begins_number, run_of}
+use Rattle.proto_lex.specs.Bytes.{is_quote, starts}
+use Rattle.proto_lex.specs.Numbers.{IsInteger, IsFloat, run_of}
 use Rattle.proto_lex.specs.Literals.{IsEscape}
 use Rattle.proto_lex.specs.Comments.{EndsBlock}
-use Rattle.proto_lex.specs.Lexes.{sign_kind, Lexes}
+use Rattle.proto_lex.specs.Lexes.{LexesWith}
+use Rattle.proto_lex.specs.Hashes.{Where}
+use Rattle.proto_lex.specs.declared.hashes.Hashes.{Hashes}
 use Rattle.proto_lex.specs.Faults.{StaysInString, here, character, escape, IsStringFault, cut, nul, no_escape}
 use Rattle.proto_lex.specs.Faults.{IsFaultAt, unknown, no_number, no_close, no_string, Meets, fault, blank, comment}
-use Rattle.proto_lex.specs.Faults.{token, begins_mark, IsFirstFault, unmarked, marked}
-use Rattle.proto_lex.specs.Reading.{Read, ◌>>=◌, is_integer, is_float, number_kind, number_at, escape_len, character_at}
-use Rattle.proto_lex.specs.Reading.{literal_at, block_at, piece_at, Pieces, pieces, with_first, pieces_at, mark_len}
-use Rattle.proto_lex.specs.Reading.{pieces_of}
+use Rattle.proto_lex.specs.Faults.{token, odd, begins_mark, IsFirstFaultWith, unmarked, marked}
+use Rattle.proto_lex.specs.Reading.{is_integer, is_float, number_kind, number_at, escape_len, character_at}
+use Rattle.proto_lex.specs.Reading.{literal_at, block_at, piece_at, pieces_at}
+use Rattle.proto_lex.specs.Reading.{pieces_of, past_piece}
 use Rattle.proto_lex.specs.declared.fault.LexFault.{LexFault}
 use Rattle.proto_lex.specs.declared.fault.LexFault.TheVariants.{BadByte, OpenString, BadEscape, BadNumber}
 use Rattle.proto_lex.specs.declared.lexer.piece.Piece.{Piece}
@@ -29,8 +31,8 @@ use Rattle.proto_lex.proofs.LiteralLemmas.{literal_first}
 use Rattle.proto_lex.proofs.LiteralFound.{escape_found}
 use Rattle.proto_lex.proofs.LiteralExact.{literal_plain, escape_exact}
 use Rattle.proto_lex.proofs.CommentLemmas.{block_found}
-use Rattle.proto_lex.proofs.PieceFound.{Stands}
-use Rattle.proto_lex.proofs.PieceExact.{number_place, quote_place, piece_exact, begun_some, stands_some}
+use Rattle.proto_lex.proofs.PieceExact.{number_place, quote_place, begun_some, unknown_exact}
+use Rattle.proto_lex.proofs.HashLemmas.{StandsIn, piece_in_exact, piece_in_not_odd, stands_in_some}
 use Rattle.proto_lex.proofs.LexesLemmas.{mark_cases, lexes_found, lexes_exact}
 use Rattle.proto_lex.proofs.PiecesLemmas.{pieces_step, pieces_fault}
 use Rattle.proto_lex.proofs.FaultFound.{first_fault_found}
@@ -135,19 +137,9 @@ no_block_len others none =
       | Some len ↦ λ e. let f = (block_found 2 len others e).2 in absurd (none f.front f.rest f.ends f.parts)
     ] refl
 
-no_sign : (b c : ℕ) → sign_kind b ≡ None → (sign_kind c ≡ None → ⊥) → nat_eq b c ≡ false
-no_sign b c e some =
-    elim (nat_eq b c) as (λ t. nat_eq b c ≡ t → t ≡ false) [
-      | true ↦ λ t. absurd (some (rw (eqb-true b c t) at e))
-      | false ↦ λ t. refl
-    ] refl
-
 fault_exact : {place : ℕ} {bytes : List ℕ} {f : LexFault} → IsFaultAt place bytes f → piece_at place bytes ≡ Err f
 unfolding piece_at
-fault_exact (unknown {place} {b} {others} nb nl nd nq e) =
-    let point : nat_eq b 46 ≡ false = no_sign b 46 e (λ some. cc) in
-    let slash : nat_eq b 47 ≡ false = no_sign b 47 e (λ some. cc) in
-    rw (e, nb, nl, nd, point, nq, slash) refl
+fault_exact (unknown {place} {b} {others} nb nl nd nq e) = unknown_exact place b others nb nl nd nq e
 fault_exact (no_number {place} {bytes} t i f) =
     number_place place bytes t ∙ number_faults place bytes (no_kind (run_of bytes) i f)
 fault_exact (no_close {place} {others} none) = rw (no_block_len others none) refl
@@ -162,26 +154,31 @@ fault_some (no_string q s) = omega arith
 
 -- the text
 
-fault_after : (at : ℕ) (k : PieceKind) (word rest : List ℕ) (f : LexFault) → Stands k word rest
-    → pieces_at 0 (at + length word) rest ≡ Err f
-    → pieces_at 0 at (word ++ rest) ≡ Err f
-fault_after at k word rest f s e =
-    let some = stands_some k word rest s in
+fault_after : (place : Where) (at : ℕ) (k : PieceKind) (word rest : List ℕ) (f : LexFault) → StandsIn place k word rest
+    → pieces_at (past_piece place k at (length word)) 0 (at + length word) rest ≡ Err f
+    → pieces_at place 0 at (word ++ rest) ≡ Err f
+fault_after place at k word rest f s e =
+    let some = stands_in_some place k word rest s in
     let long : 0 < length (word ++ rest) = omega (arith, length-append word rest) in
     let p : Piece = record { kind = k; len = length word } in
-    pieces_step at (word ++ rest) p long (piece_exact at k word rest s) some
+    pieces_step place at (word ++ rest) p long (piece_in_exact place at k word rest s) some
     ∙ rw (drop_at word rest (length word) refl, e) refl
 
-meets_exact : {at : ℕ} {bytes : List ℕ} {f : LexFault} → Meets at bytes f → pieces_at 0 at bytes ≡ Err f
-meets_exact (fault {place = at} {bytes = bytes} {f = f} h) = pieces_fault at bytes f (fault_some h) (fault_exact h)
-meets_exact (blank {place = at} {b = b} {rest = rest} {f = f} t m) =
-    fault_after at piece.Blank (b ∷ []) rest f (b, refl, t) (meets_exact m)
-meets_exact (comment {place = at} {k = k} {word = word} {rest = rest} {f = f} s m) =
-    fault_after at (piece.Comment k) word rest f s (meets_exact m)
-meets_exact (token {place = at} {k = k} {word = word} {rest = rest} {f = f} s m) =
-    fault_after at (piece.Token k) word rest f s (meets_exact m)
+meets_exact : {place : Where} {at : ℕ} {bytes : List ℕ} {f : LexFault} → Meets place at bytes f
+    → pieces_at place 0 at bytes ≡ Err f
+meets_exact (fault {place} {at} {bytes} {f} n h) =
+    pieces_fault place at bytes f (fault_some h) (piece_in_not_odd place at bytes n ∙ fault_exact h)
+meets_exact (blank {place} {at} {b} {rest} {f} t m) =
+    fault_after place at piece.Blank (b ∷ []) rest f (b, refl, t) (meets_exact m)
+meets_exact (comment {place} {at} {k} {word} {rest} {f} s m) =
+    fault_after place at (piece.Comment k) word rest f s (meets_exact m)
+meets_exact (token {place} {at} {k} {word} {rest} {f} s m) =
+    fault_after place at (piece.Token k) word rest f s (meets_exact m)
+meets_exact (odd {place} {at} {b} {rest} {f} t m) =
+    fault_after place at piece.Odd (b ∷ []) rest f (b, refl, t) (meets_exact m)
 
-pub first_fault_exact : {text : List ℕ} {f : LexFault} → IsFirstFault text f → pieces_of text ≡ Err f
+pub first_fault_exact : {hashes : Hashes} {text : List ℕ} {f : LexFault} → IsFirstFaultWith hashes text f
+    → pieces_of hashes text ≡ Err f
 unfolding pieces_of
 first_fault_exact (unmarked {text} {f} n m) =
     mark_cases text
@@ -191,21 +188,23 @@ first_fault_exact (marked m) = meets_exact m
 
 -- the laws
 
-pub one_fault : {text : List ℕ} {f g : LexFault} → IsFirstFault text f → IsFirstFault text g → f ≡ g
-one_fault {text} {f} {g} a b = same_err f g (pieces_of text) (first_fault_exact a) (first_fault_exact b)
+pub one_fault : {hashes : Hashes} {text : List ℕ} {f g : LexFault} → IsFirstFaultWith hashes text f
+    → IsFirstFaultWith hashes text g → f ≡ g
+one_fault {hashes} {text} {f} {g} a b =
+    same_err f g (pieces_of hashes text) (first_fault_exact a) (first_fault_exact b)
 
-pub no_fault : {text : List ℕ} {f : LexFault} {tokens : List Token} {comments : List Comment}
-    → Lexes text tokens comments → IsFirstFault text f → ⊥
+pub no_fault : {hashes : Hashes} {text : List ℕ} {f : LexFault} {tokens : List Token} {comments : List Comment}
+    → LexesWith hashes text tokens comments → IsFirstFaultWith hashes text f → ⊥
 no_fault a b = ok_not_err (sym (lexes_exact a) ∙ first_fault_exact b)
 
-pub lexes_or_faults : (text : List ℕ)
-    → ((tokens : List Token) × (comments : List Comment) × Lexes text tokens comments)
-    ⊎ ((f : LexFault) × IsFirstFault text f)
-lexes_or_faults text =
-    elim (pieces_of text) as
-    (λ r. pieces_of text ≡ r
-    → ((tokens : List Token) × (comments : List Comment) × Lexes text tokens comments)
-    ⊎ ((f : LexFault) × IsFirstFault text f)) [
-      | Ok l ↦ λ e. inl (l.tokens, l.comments, lexes_found text l e)
-      | Err f ↦ λ e. inr (f, first_fault_found text f e)
+pub lexes_or_faults : (hashes : Hashes) (text : List ℕ)
+    → ((tokens : List Token) × (comments : List Comment) × LexesWith hashes text tokens comments)
+    ⊎ ((f : LexFault) × IsFirstFaultWith hashes text f)
+lexes_or_faults hashes text =
+    elim (pieces_of hashes text) as
+    (λ r. pieces_of hashes text ≡ r
+    → ((tokens : List Token) × (comments : List Comment) × LexesWith hashes text tokens comments)
+    ⊎ ((f : LexFault) × IsFirstFaultWith hashes text f)) [
+      | Ok l ↦ λ e. inl (l.tokens, l.comments, lexes_found hashes text l e)
+      | Err f ↦ λ e. inr (f, first_fault_found hashes text f e)
     ] refl

@@ -6,13 +6,15 @@ use Rattle.std.proofs.lemmas.Option.{none-some}
 use Rattle.proto_lex.specs.Bytes.{is_blank, is_letter, is_digit, is_quote, starts}
 use Rattle.proto_lex.specs.Numbers.{begins_number, run_of}
 use Rattle.proto_lex.specs.Literals.{is_plain, IsEscape}
-use Rattle.proto_lex.specs.Lexes.{sign_kind}
+use Rattle.proto_lex.specs.Hashes.{Where, behind, past_odd}
+use Rattle.proto_lex.specs.Lexes.{sign_kind, is_odd_in}
+use Rattle.proto_lex.specs.declared.hashes.Hashes.{Hashes}
 use Rattle.proto_lex.specs.Faults.{here, character, escape, IsStringFault, cut, nul, no_escape, IsFaultAt, unknown}
-use Rattle.proto_lex.specs.Faults.{no_number, no_close, no_string, Meets, fault, blank, comment, token, begins_mark}
-use Rattle.proto_lex.specs.Faults.{IsFirstFault, unmarked, marked}
-use Rattle.proto_lex.specs.Reading.{Read, ◌>>=◌, is_in_line, is_integer, is_float, number_kind, numbered, number_at}
+use Rattle.proto_lex.specs.Faults.{no_number, no_close, no_string, Meets, fault, blank, comment, token, odd, begins_mark}
+use Rattle.proto_lex.specs.Faults.{IsFirstFaultWith, unmarked, marked}
+use Rattle.proto_lex.specs.Reading.{Read, ◌>>=◌, is_integer, is_float, number_kind, numbered, number_at}
 use Rattle.proto_lex.specs.Reading.{escape_len, escaped, character_at, literal_at, block_at, blocked, past_first}
-use Rattle.proto_lex.specs.Reading.{slash_at, signed, piece_at, Pieces, with_first, pieces_at, mark_len, pieces_of}
+use Rattle.proto_lex.specs.Reading.{slash_at, signed, piece_at, piece_in, past_piece, Pieces, with_first, pieces_at, mark_len, pieces_of}
 use Rattle.proto_lex.specs.Reading as reading
 use Rattle.proto_lex.specs.declared.fault.LexFault.{LexFault}
 use Rattle.proto_lex.specs.declared.fault.LexFault.TheVariants.{Memory, BadByte, OpenString, OpenComment, BadEscape}
@@ -29,8 +31,7 @@ use Rattle.proto_lex.proofs.LiteralLemmas.{character_positive}
 use Rattle.proto_lex.proofs.LiteralFound.{EscapeFront, escape_found, escaped_found}
 use Rattle.proto_lex.proofs.LiteralExact.{escape_some}
 use Rattle.proto_lex.proofs.CommentLemmas.{block_exact}
-use Rattle.proto_lex.proofs.PieceFound.{Stands, Begins, piece_found}
-use Rattle.proto_lex.proofs.PieceExact.{stands_some}
+use Rattle.proto_lex.proofs.HashLemmas.{StandsIn, BeginsIn, piece_in_found, stands_in_some}
 use Rattle.proto_lex.proofs.LexesLemmas.{mark_cases}
 use Rattle.proto_lex.proofs.PiecesLemmas.{drop_after}
 
@@ -202,40 +203,53 @@ piece_fault at b others f e =
 
 -- the text
 
-placed : (at : ℕ) (k : PieceKind) (word rest : List ℕ) (f : LexFault) → Stands k word rest
-    → Meets (at + length word) rest f → Meets at (word ++ rest) f
-placed at piece.Blank word rest f s r =
-    let from : Meets (at + 1) rest f = subst (λ (w : List ℕ). Meets (at + length w) rest f) s.1 r in
-    subst (λ (w : List ℕ). Meets at (w ++ rest) f) (sym s.1) (blank s.2 from)
-placed at (piece.Comment k) word rest f s r = comment s r
-placed at (piece.Token k) word rest f s r = token s r
+placed : (place : Where) (at : ℕ) (k : PieceKind) (word rest : List ℕ) (f : LexFault) → StandsIn place k word rest
+    → Meets (past_piece place k at (length word)) (at + length word) rest f → Meets place at (word ++ rest) f
+placed place at piece.Blank word rest f s r =
+    let from : Meets place (at + 1) rest f = subst (λ (w : List ℕ). Meets place (at + length w) rest f) s.1 r in
+    subst (λ (w : List ℕ). Meets place at (w ++ rest) f) (sym s.1) (blank s.2 from)
+placed place at piece.Odd word rest f s r =
+    let from : Meets (past_odd place) (at + 1) rest f =
+    subst (λ (w : List ℕ). Meets (past_odd place) (at + length w) rest f) s.1 r in
+    subst (λ (w : List ℕ). Meets place at (w ++ rest) f) (sym s.1) (odd s.2 from)
+placed place at (piece.Comment k) word rest f s r = comment s r
+placed place at (piece.Token k) word rest f s r = token s r
 
-piece_before : (at b : ℕ) (others : List ℕ) (p : Piece) (f : LexFault) → Begins p (b ∷ others) → 0 < p.len
-    → Meets (at + 1 + (p.len - 1)) (drop (p.len - 1) others) f → Meets at (b ∷ others) f
-piece_before at b others p f h some r =
+piece_before : (place : Where) (at b : ℕ) (others : List ℕ) (p : Piece) (f : LexFault) → BeginsIn place p (b ∷ others)
+    → 0 < p.len
+    → Meets (past_piece place p.kind at p.len) (at + 1 + (p.len - 1)) (drop (p.len - 1) others) f
+    → Meets place at (b ∷ others) f
+piece_before place at b others p f h some r =
     let n : at + 1 + (p.len - 1) ≡ at + length h.word = omega (arith, h.counted) in
     let left : drop (p.len - 1) others ≡ h.rest =
     drop_after p.len b others some ∙ (ap (λ xs. drop p.len xs) h.parts ∙ drop_at h.word h.rest p.len h.counted) in
-    let from : Meets (at + length h.word) h.rest f = rw (n, left) at r in
-    subst (λ (xs : List ℕ). Meets at xs f) (sym h.parts) (placed at p.kind h.word h.rest f h.stands from)
+    let from : Meets (past_piece place p.kind at p.len) (at + length h.word) h.rest f = rw (n, left) at r in
+    let counted : Meets (past_piece place p.kind at (length h.word)) (at + length h.word) h.rest f =
+    subst (λ (len : ℕ). Meets (past_piece place p.kind at len) (at + length h.word) h.rest f) (sym h.counted) from in
+    subst (λ (xs : List ℕ). Meets place at xs f) (sym h.parts) (placed place at p.kind h.word h.rest f h.stands counted)
 
-pieces_fault_found : (skip at : ℕ) (bytes : List ℕ) (f : LexFault) → pieces_at skip at bytes ≡ Err f
-    → Meets (at + skip) (drop skip bytes) f
-unfolding pieces_at
-pieces_fault_found zero at [] f e = ok_not_err e
-pieces_fault_found (suc skip) at [] f e = ok_not_err e
-pieces_fault_found (suc skip) at (b ∷ others) f e =
+pieces_fault_found : (place : Where) (skip at : ℕ) (bytes : List ℕ) (f : LexFault)
+    → pieces_at place skip at bytes ≡ Err f
+    → Meets place (at + skip) (drop skip bytes) f
+unfolding pieces_at piece_in
+pieces_fault_found place zero at [] f e = ok_not_err e
+pieces_fault_found place (suc skip) at [] f e = ok_not_err e
+pieces_fault_found place (suc skip) at (b ∷ others) f e =
     let n : at + 1 + skip ≡ at + suc skip = omega arith in
-    rw n at (pieces_fault_found skip (at + 1) others f e)
-pieces_fault_found zero at (b ∷ others) f e =
-    rw add-zero (bind_err (piece_at at (b ∷ others))
-    (λ p. pieces_at (p.len - 1) (at + 1) others >>= λ later. Ok (with_first p.kind at p.len later)) f e
-    (λ x. fault (piece_fault at b others f x))
-    (λ p x y. bind_err (pieces_at (p.len - 1) (at + 1) others) (λ later. Ok (with_first p.kind at p.len later)) f y
+    rw n at (pieces_fault_found place skip (at + 1) others f e)
+pieces_fault_found place zero at (b ∷ others) f e =
+    let Later : Piece → Read Pieces = λ p.
+    pieces_at (past_piece place p.kind at p.len) (p.len - 1) (at + 1) others
+    >>= λ later. Ok (with_first place p.kind at p.len later) in
+    rw add-zero (bind_err (piece_in place at (b ∷ others)) Later f e
+    (λ x. chosen (is_odd_in place b) x (λ _ y. ok_not_err y) (λ n y. fault n (piece_fault at b others f y)))
+    (λ p x y. bind_err (pieces_at (past_piece place p.kind at p.len) (p.len - 1) (at + 1) others)
+    (λ later. Ok (with_first place p.kind at p.len later)) f y
     (λ z.
-    let h = piece_found at (b ∷ others) p x in
-    let some : 0 < p.len = omega (arith, h.counted, stands_some p.kind h.word h.rest h.stands) in
-    piece_before at b others p f h some (pieces_fault_found (p.len - 1) (at + 1) others f z))
+    let h = piece_in_found place at (b ∷ others) p x in
+    let some : 0 < p.len = omega (arith, h.counted, stands_in_some place p.kind h.word h.rest h.stands) in
+    piece_before place at b others p f h some
+    (pieces_fault_found (past_piece place p.kind at p.len) (p.len - 1) (at + 1) others f z))
     (λ _ _ z. ok_not_err z)))
 
 no_mark : (text : List ℕ) → mark_len text ≡ 0 → begins_mark text ≡ false
@@ -248,18 +262,20 @@ no_mark (a ∷ (b ∷ (c ∷ rest))) e =
       | false ↦ λ _. refl
     ] e
 
-pub first_fault_found : (text : List ℕ) (f : LexFault) → pieces_of text ≡ Err f → IsFirstFault text f
+pub first_fault_found : (hashes : Hashes) (text : List ℕ) (f : LexFault) → pieces_of hashes text ≡ Err f
+    → IsFirstFaultWith hashes text f
 unfolding pieces_of
-first_fault_found text f e =
+first_fault_found hashes text f e =
     mark_cases text
-    (λ m. unmarked (no_mark text m) (pieces_fault_found 0 0 text f (rw m at e)))
-    (λ rest m. subst (λ (t : List ℕ). IsFirstFault t f) (sym m) (marked (pieces_fault_found 0 3 rest f (rw m at e))))
+    (λ m. unmarked (no_mark text m) (pieces_fault_found (behind hashes []) 0 0 text f (rw m at e)))
+    (λ rest m. subst (λ (t : List ℕ). IsFirstFaultWith hashes t f) (sym m)
+    (marked (pieces_fault_found (behind hashes []) 0 3 rest f (rw m at e))))
 
 -- what a failed reading tells of the text
-pub given_fault : (text : List ℕ) (f : LexFault) → (f ≡ Memory) ⊎ (pieces_of text ≡ Err f)
-    → (f ≡ Memory) ⊎ IsFirstFault text f
-given_fault text f (inl memory) = inl memory
-given_fault text f (inr e) = inr (first_fault_found text f e)
+pub given_fault : (hashes : Hashes) (text : List ℕ) (f : LexFault) → (f ≡ Memory) ⊎ (pieces_of hashes text ≡ Err f)
+    → (f ≡ Memory) ⊎ IsFirstFaultWith hashes text f
+given_fault hashes text f (inl memory) = inl memory
+given_fault hashes text f (inr e) = inr (first_fault_found hashes text f e)
 
 -- a text that lexes fails for want of memory alone
 pub only_memory : (f : LexFault) (read : Read Pieces) (l : Pieces) → (f ≡ Memory) ⊎ (read ≡ Err f) → read ≡ Ok l

@@ -16,7 +16,10 @@ use Rattle.proto_lex.specs.Literals.{EndsLiteral, close, character, escape}
 use Rattle.proto_lex.specs.Comments.{IsComment, line, block, EndsBlock}
 use Rattle.proto_lex.specs.Comments as comments
 use Rattle.proto_lex.specs.Lexes.{sign_kind, Spells, identifier, integer, float, literal, sign, IsWhole, part}
-use Rattle.proto_lex.specs.Lexes.{LexesFrom, at_end, blank, comment, token, Lexes, unmarked, marked}
+use Rattle.proto_lex.specs.Lexes.{LexesFrom, at_end, blank, comment, token, odd, LexesWith, unmarked, marked}
+use Rattle.proto_lex.specs.Lexes.{is_odd_in}
+use Rattle.proto_lex.specs.Hashes.{Where, is_commented}
+use Rattle.proto_lex.specs.declared.hashes.Hashes.{Hashes}
 use Rattle.proto_lex.specs.Lexed.{part_of, IsPart, AreInOrder, AreApart, IsLexed}
 use Rattle.proto_lex.specs.declared.token.Token.{Token}
 use Rattle.proto_lex.specs.declared.token.TokenKind.{TokenKind}
@@ -26,6 +29,7 @@ use Rattle.proto_lex.specs.declared.span.Span.{Span}
 use Rattle.proto_lex.specs.declared.lexer.piece.PieceKind.{PieceKind}
 use Rattle.proto_lex.specs.declared.lexer.piece.PieceKind.TheVariants as piece
 use Rattle.proto_lex.proofs.ReadingTestLemmas.{both, either}
+use Rattle.proto_lex.proofs.HashLemmas.{odd_low}
 use Rattle.proto_lex.proofs.PieceFound.{Stands, sign_cases}
 use Rattle.proto_lex.proofs.PieceExact.{integer_begins, float_begins, stands_some}
 
@@ -156,6 +160,7 @@ cut : (k : PieceKind) (word rest : List ℕ) → Stands k word rest → IsUtf8 (
     → IsCharBoundary (word ++ rest) (length word)
 cut piece.Blank word rest s u =
     cut_after word rest u (record { front = []; last = s.0; parts = s.1; ascii = blank_low s.0 s.2 })
+cut piece.Odd word rest s u = absurd s
 cut (piece.Comment k) word rest s u = cut_comment s u
 cut (piece.Token k) word rest s u = cut_after word rest u (token_ascii rest s.spelled s.whole)
 
@@ -163,6 +168,13 @@ utf8_after : (k : PieceKind) (word rest : List ℕ) → Stands k word rest → I
 utf8_after k word rest s u =
     subst IsUtf8 (drop_at word rest (length word) refl)
     (IsUtf8-drop (word ++ rest) (length word) u (cut k word rest s u))
+
+utf8_after_odd : (place : Where) (b : ℕ) (rest : List ℕ) → is_odd_in place b ≡ true → IsUtf8 (b ∷ rest)
+    → IsUtf8 rest
+utf8_after_odd place b rest t u =
+    let ascii : EndsInAscii (b ∷ []) =
+    record { front = []; last = b; parts = refl; ascii = odd_low place b t } in
+    IsUtf8-drop (b ∷ rest) 1 u (cut_after (b ∷ []) rest u ascii)
 
 -- a piece of the text
 
@@ -246,9 +258,9 @@ placed_before text place later tokens comments h p = record {
   comment_order = in_order_before place later (map (λ c. c.span) comments) h p.comment_order;
 }
 
-placed_from : (text front : List ℕ) {at : ℕ} {bytes : List ℕ} {tokens : List Token} {comments : List Comment}
+placed_from : (text front : List ℕ) {place : Where} {at : ℕ} {bytes : List ℕ} {tokens : List Token} {comments : List Comment}
     → text ≡ front ++ bytes → at ≡ length front
-    → IsUtf8 bytes → LexesFrom at bytes tokens comments → ArePlaced text at tokens comments
+    → IsUtf8 bytes → LexesFrom place at bytes tokens comments → ArePlaced text at tokens comments
 placed_from text front e n u at_end =
     record {
       tokens_in = tt;
@@ -283,33 +295,42 @@ placed_from text front e n u (comment {at} {k} {word} {rest} {tokens} {comments}
       token_order = in_order_before at (at + length word) (map (λ t. t.span) tokens) (omega arith) p.token_order;
       comment_order = (omega arith, part_of_text.some, p.comment_order);
     }
-placed_from text front e n u (token {at} {k} {word} {rest} {tokens} {comments} s r) =
+placed_from text front e n u (odd {place} {at} {b} {rest} {tokens} {comments} t r) =
+    let v = utf8_after_odd place b rest t u in
+    let split : text ≡ (front ++ b ∷ []) ++ rest = e ∙ sym (append_assoc front (b ∷ []) rest) in
+    let count : at + 1 ≡ length (front ++ b ∷ []) = omega (arith, n, length-append front (b ∷ [])) in
+    placed_before text at (at + 1) tokens comments (omega arith) (placed_from text (front ++ b ∷ []) split count v r)
+placed_from text front e n u (token {place} {at} {k} {word} {rest} {tokens} {comments} s r) =
     let v = utf8_after (piece.Token k) word rest s u in
     let some = stands_some (piece.Token k) word rest s in
     let split : text ≡ (front ++ word) ++ rest = e ∙ sym (append_assoc front word rest) in
     let count : at + length word ≡ length (front ++ word) = omega (arith, n, length-append front word) in
     let p = placed_from text (front ++ word) split count v r in
     let part_of_text = part_is text front word rest at e n some u v in
-    record {
-      tokens_in = (part_of_text, p.tokens_in);
-      spelled_in = (
-        subst (λ (w : List ℕ). Spells k w) (sym (part_word text front word rest at e n)) s.spelled,
-        p.spelled_in,
-      );
-      comments_in = p.comments_in;
-      comments_spelled_in = p.comments_spelled_in;
-      apart_in = (token_first (part at (length word)) comments p.comment_order, p.apart_in);
-      token_order = (omega arith, part_of_text.some, p.token_order);
-      comment_order = in_order_before at (at + length word) (map (λ c. c.span) comments) (omega arith) p.comment_order;
-    }
+    elim (is_commented place k) as
+    (λ t. ArePlaced text at (cond t tokens (record { kind = k; span = part at (length word) } ∷ tokens)) comments) [
+      | true ↦ placed_before text at (at + length word) tokens comments (omega arith) p
+      | false ↦ record {
+        tokens_in = (part_of_text, p.tokens_in);
+        spelled_in = (
+          subst (λ (w : List ℕ). Spells k w) (sym (part_word text front word rest at e n)) s.spelled,
+          p.spelled_in,
+        );
+        comments_in = p.comments_in;
+        comments_spelled_in = p.comments_spelled_in;
+        apart_in = (token_first (part at (length word)) comments p.comment_order, p.apart_in);
+        token_order = (omega arith, part_of_text.some, p.token_order);
+        comment_order = in_order_before at (at + length word) (map (λ c. c.span) comments) (omega arith) p.comment_order;
+      }
+    ]
 
 -- the byte order mark is a character
 mark_char : encode 65279 ≡ 239 ∷ (187 ∷ (191 ∷ []))
 unfolding encode
 mark_char = refl
 
-placed : {text : List ℕ} {tokens : List Token} {comments : List Comment} → IsUtf8 text → Lexes text tokens comments
-    → ArePlaced text 0 tokens comments
+placed : {hashes : Hashes} {text : List ℕ} {tokens : List Token} {comments : List Comment} → IsUtf8 text
+    → LexesWith hashes text tokens comments → ArePlaced text 0 tokens comments
 placed u (unmarked {text} r) = placed_from text [] refl refl u r
 placed u (marked {rest} {tokens} {comments} r) =
     let text : List ℕ = 239 ∷ (187 ∷ (191 ∷ rest)) in
@@ -318,12 +339,12 @@ placed u (marked {rest} {tokens} {comments} r) =
     (IsUtf8-past_char text rest 65279 u (sym (ap (λ xs. xs ++ rest) mark_char))) r)
 
 -- what lexes is lexed
-pub is_lexed : {text : List ℕ} {tokens : List Token} {comments : List Comment} → IsUtf8 text
-    → Lexes text tokens comments → IsLexed text tokens comments
-is_lexed {text} {tokens} {comments} u d =
+pub is_lexed : {hashes : Hashes} {text : List ℕ} {tokens : List Token} {comments : List Comment} → IsUtf8 text
+    → LexesWith hashes text tokens comments → IsLexed text tokens comments
+is_lexed {hashes} {text} {tokens} {comments} u d =
     let p = placed u d in
     record {
-      lexes = d;
+      lexes = (hashes, d);
       token_parts = All-from_recursion (λ t. IsPart text t.span) tokens p.tokens_in;
       spelled = All-from_recursion (λ t. Spells t.kind (part_of text t.span)) tokens p.spelled_in;
       comment_parts = All-from_recursion (λ c. IsPart text c.span) comments p.comments_in;

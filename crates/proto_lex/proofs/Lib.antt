@@ -6,6 +6,8 @@ pub mod CommentTextExamples
 -- The fault that a text meets first is the one that is read
 pub mod FaultExact
 pub mod FaultFound
+-- What stands at a place where a `#` may begin a comment, or in one
+pub mod HashLemmas
 pub mod LexedLemmas
 -- The two laws of the lexer: what is read lexes, and what lexes is read
 pub mod LexesLemmas
@@ -35,3 +37,5 @@ pub mod ReadingPrefixLemmas
 pub mod ReadingSearchLemmas
 -- Readings that may fail, and tests and slices that they take apart
 pub mod ReadingTestLemmas
+-- The code units between two places of a text, by those that are kept
+pub mod UnitLemmas

@@ -1,12 +1,13 @@
-use Rattle.std.proofs.Common.{◌≡◌, ℕ, suc, ◌+◌, ◌<◌, true, false, ◌||◌, ◌&&◌, nat_eq, Some, Ok, List, [], ◌∷◌, ◌++◌}
+use Rattle.std.proofs.Common.{◌≡◌, ℕ, suc, ◌+◌, ◌<◌, true, false, ◌||◌, ◌&&◌, nat_eq, Some, None, Ok, Err, List, [], ◌∷◌, ◌++◌}
 use Rattle.std.proofs.Common.{length, refl, ◌∙◌, arith, eqb-true}
 use Rattle.std.proofs.lemmas.Bool.Decides.{nat_tests}
-use Rattle.proto_lex.specs.Bytes.{is_digit, is_word, is_quote, starts}
+use Rattle.proto_lex.specs.Bytes.{is_blank, is_letter, is_digit, is_word, is_quote, starts}
 use Rattle.proto_lex.specs.Numbers.{IsInteger, decimal, octal, hexadecimal, IsFloat, whole, fraction, power}
 use Rattle.proto_lex.specs.Numbers.{point_first, run_of, begins_number}
 use Rattle.proto_lex.specs.Comments.{IsComment, line, block}
 use Rattle.proto_lex.specs.Lexes.{sign_kind, Spells, identifier, integer, float, literal, sign, IsWhole}
 use Rattle.proto_lex.specs.Reading.{◌>>=◌, is_in_line, token, number_at, literal_at, slash_at, piece_at}
+use Rattle.proto_lex.specs.declared.fault.LexFault.TheVariants.{BadByte}
 use Rattle.proto_lex.specs.declared.lexer.piece.PieceKind.{PieceKind}
 use Rattle.proto_lex.specs.declared.lexer.piece.PieceKind.TheVariants as piece
 use Rattle.proto_lex.specs.declared.token.TokenKind.{TokenKind}
@@ -134,6 +135,7 @@ pub piece_exact : (at : ℕ) (k : PieceKind) (word rest : List ℕ) → Stands k
     → piece_at at (word ++ rest) ≡ Ok (record { kind = k; len = length word })
 unfolding piece_at
 piece_exact at piece.Blank word rest s = rw (s.1, s.2) refl
+piece_exact at piece.Odd word rest s = absurd s
 piece_exact at (piece.Comment k) word rest s = comment_exact at s
 piece_exact at (piece.Token k) word rest s = token_exact at rest s.spelled s.whole
 
@@ -155,5 +157,23 @@ comment_some (block r) = omega arith
 
 pub stands_some : (k : PieceKind) (word rest : List ℕ) → Stands k word rest → 0 < length word
 stands_some piece.Blank word rest s = rw s.1 (omega arith)
+stands_some piece.Odd word rest s = absurd s
 stands_some (piece.Comment k) word rest s = comment_some s
 stands_some (piece.Token k) word rest s = spelled_some s.spelled
+
+-- a character that begins nothing
+
+no_sign : (b c : ℕ) → sign_kind b ≡ None → (sign_kind c ≡ None → ⊥) → nat_eq b c ≡ false
+no_sign b c e some =
+    elim (nat_eq b c) as (λ t. nat_eq b c ≡ t → t ≡ false) [
+      | true ↦ λ t. absurd (some (rw (eqb-true b c t) at e))
+      | false ↦ λ t. refl
+    ] refl
+
+pub unknown_exact : (at b : ℕ) (others : List ℕ) → is_blank b ≡ false → is_letter b ≡ false → is_digit b ≡ false
+    → is_quote b ≡ false → sign_kind b ≡ None → piece_at at (b ∷ others) ≡ Err (BadByte at)
+unfolding piece_at
+unknown_exact at b others nb nl nd nq e =
+    let point : nat_eq b 46 ≡ false = no_sign b 46 e (λ some. cc) in
+    let slash : nat_eq b 47 ≡ false = no_sign b 47 e (λ some. cc) in
+    rw (e, nb, nl, nd, point, nq, slash) refl

@@ -29,6 +29,7 @@ use Rattle.proto_lex.proofs.CommentLemmas.{block_found}
 
 abbrev pub Stands : PieceKind → (word rest : List ℕ) → Type 0
 Stands piece.Blank word rest = (b : ℕ) × (word ≡ b ∷ []) × (is_blank b ≡ true)
+Stands piece.Odd word rest = ⊥
 Stands (piece.Comment k) word rest = IsComment k word rest
 Stands (piece.Token k) word rest = IsToken k word rest
 

@@ -19,6 +19,9 @@ space = 32
 abbrev pub double_quote : ℕ
 double_quote = 34
 
+abbrev pub hash : ℕ
+hash = 35
+
 abbrev pub single_quote : ℕ
 single_quote = 39
 
@@ -126,6 +129,9 @@ open_brace = 123
 
 abbrev pub close_brace : ℕ
 close_brace = 125
+
+abbrev pub delete : ℕ
+delete = 127
 
 -- the byte order mark: U+FEFF in UTF-8
 abbrev pub mark_first : ℕ

@@ -1,10 +1,13 @@
 -- Why a text has no lexing: the fault that reading from left to right meets first.
-use Rattle.std.specs.Prelude.{◌≡◌, ℕ, ◌+◌, Bool, true, false, ◌&&◌, not, None, List, ◌∷◌, ◌++◌, length, nat_eq}
+use Rattle.std.specs.Prelude.{◌≡◌, ℕ, ◌+◌, Bool, true, false, ◌&&◌, not, None, List, [], ◌∷◌, ◌++◌, length, nat_eq}
 use Rattle.proto_lex.specs.Bytes.{is_blank, is_letter, is_digit, is_quote, starts}
 use Rattle.proto_lex.specs.Numbers.{IsInteger, IsFloat, begins_number, run_of}
 use Rattle.proto_lex.specs.Literals.{is_plain, IsEscape}
 use Rattle.proto_lex.specs.Comments.{EndsBlock, IsComment}
-use Rattle.proto_lex.specs.Lexes.{sign_kind, IsToken}
+use Rattle.proto_lex.specs.Hashes.{Where, behind, past_token, past_odd}
+use Rattle.proto_lex.specs.Lexes.{sign_kind, IsToken, is_odd_in, part}
+use Rattle.proto_lex.specs.declared.hashes.Hashes.{Hashes}
+use Rattle.proto_lex.specs.declared.hashes.Hashes.TheVariants.{Nowhere}
 use Rattle.proto_lex.specs.declared.fault.LexFault.{LexFault}
 use Rattle.proto_lex.specs.declared.fault.LexFault.TheVariants.{BadByte, OpenString, OpenComment, BadEscape, BadNumber}
 use Rattle.proto_lex.specs.declared.token.TokenKind.{TokenKind}
@@ -49,15 +52,20 @@ pub data IsFaultAt : (place : ℕ) → List ℕ → LexFault → Type 0 where
       → IsStringFault quote place (place + 1) others fault
       → IsFaultAt place (quote ∷ others) fault
 
--- the bytes after a place are blanks, comments and tokens up to this fault
-pub data Meets : (place : ℕ) → List ℕ → LexFault → Type 0 where
-  fault : {place : ℕ} {bytes : List ℕ} {f : LexFault} → IsFaultAt place bytes f → Meets place bytes f
-  blank : {place b : ℕ} {rest : List ℕ} {f : LexFault} → is_blank b ≡ true → Meets (place + 1) rest f
-      → Meets place (b ∷ rest) f
-  comment : {place : ℕ} {k : CommentKind} {word rest : List ℕ} {f : LexFault}
-      → IsComment k word rest → Meets (place + length word) rest f → Meets place (word ++ rest) f
-  token : {place : ℕ} {k : TokenKind} {word rest : List ℕ} {f : LexFault}
-      → IsToken k word rest → Meets (place + length word) rest f → Meets place (word ++ rest) f
+-- the bytes after a place are blanks, comments and tokens up to this fault, which isn't that of a `#` that begins a
+-- comment, nor of a character in one
+pub data Meets : Where → (at : ℕ) → List ℕ → LexFault → Type 0 where
+  fault : {place : Where} {at : ℕ} {bytes : List ℕ} {f : LexFault} → starts (is_odd_in place) bytes ≡ false
+      → IsFaultAt at bytes f → Meets place at bytes f
+  blank : {place : Where} {at b : ℕ} {rest : List ℕ} {f : LexFault} → is_blank b ≡ true → Meets place (at + 1) rest f
+      → Meets place at (b ∷ rest) f
+  comment : {place : Where} {at : ℕ} {k : CommentKind} {word rest : List ℕ} {f : LexFault}
+      → IsComment k word rest → Meets place (at + length word) rest f → Meets place at (word ++ rest) f
+  token : {place : Where} {at : ℕ} {k : TokenKind} {word rest : List ℕ} {f : LexFault} → IsToken k word rest
+      → Meets (past_token place (record { kind = k; span = part at (length word) })) (at + length word) rest f
+      → Meets place at (word ++ rest) f
+  odd : {place : Where} {at b : ℕ} {rest : List ℕ} {f : LexFault}
+      → is_odd_in place b ≡ true → Meets (past_odd place) (at + 1) rest f → Meets place at (b ∷ rest) f
 
 -- the bytes begin with a byte order mark
 abbrev pub begins_mark : List ℕ → Bool
@@ -65,7 +73,12 @@ begins_mark (a ∷ (b ∷ (c ∷ _))) = nat_eq a ascii.mark_first && nat_eq b as
 begins_mark _ = false
 
 -- the first fault of the text, after a byte order mark if it begins with one (that the first counts is the profile's)
-pub data IsFirstFault : List ℕ → LexFault → Type 0 where
-  unmarked : {text : List ℕ} {f : LexFault} → begins_mark text ≡ false → Meets 0 text f → IsFirstFault text f
-  marked : {rest : List ℕ} {f : LexFault} → Meets 3 rest f
-      → IsFirstFault (ascii.mark_first ∷ (ascii.mark_second ∷ (ascii.mark_third ∷ rest))) f
+pub data IsFirstFaultWith (hashes : Hashes) : List ℕ → LexFault → Type 0 where
+  unmarked : {text : List ℕ} {f : LexFault} → begins_mark text ≡ false → Meets (behind hashes []) 0 text f
+      → IsFirstFaultWith hashes text f
+  marked : {rest : List ℕ} {f : LexFault} → Meets (behind hashes []) 3 rest f
+      → IsFirstFaultWith hashes (ascii.mark_first ∷ (ascii.mark_second ∷ (ascii.mark_third ∷ rest))) f
+
+-- the same, as proto3 has it
+abbrev pub IsFirstFault : List ℕ → LexFault → Type 0
+IsFirstFault = IsFirstFaultWith Nowhere

@@ -2,7 +2,8 @@
 use Rattle.std.specs.Prelude.{ℕ, ◌<◌, ◌≤◌, ◌⊎◌, List, [], ◌∷◌, length, drop, map, All, IsCharBoundary}
 use Rattle.std.specs.List.{slice_range}
 use Rattle.proto_lex.specs.Comments.{IsComment}
-use Rattle.proto_lex.specs.Lexes.{Spells, Lexes}
+use Rattle.proto_lex.specs.Lexes.{Spells, LexesWith}
+use Rattle.proto_lex.specs.declared.hashes.Hashes.{Hashes}
 use Rattle.proto_lex.specs.declared.span.Span.{Span}
 use Rattle.proto_lex.specs.declared.token.Token.{Token}
 use Rattle.proto_lex.specs.declared.token.Comment.{Comment}
@@ -32,9 +33,13 @@ AreInOrder place (span ∷ spans) = (place ≤ span.start) × (span.start < span
 abbrev pub AreApart : Span → Span → Type 0
 AreApart a b = (a.end ≤ b.start) ⊎ (b.end ≤ a.start)
 
+-- the tokens and comments are those of the text, wherever a `#` begins a comment
+abbrev pub LexesSomehow : (text : List ℕ) → (tokens : List Token) → (comments : List Comment) → Type 0
+LexesSomehow text tokens comments = (hashes : Hashes) × LexesWith hashes text tokens comments
+
 -- the tokens and comments are those of the text
 pub record IsLexed (text : List ℕ) (tokens : List Token) (comments : List Comment) : Type 0 where
-  pub lexes : Lexes text tokens comments
+  pub lexes : LexesSomehow text tokens comments
   pub token_parts : All (λ t. IsPart text t.span) tokens
   pub spelled : All (λ t. Spells t.kind (part_of text t.span)) tokens
   pub comment_parts : All (λ c. IsPart text c.span) comments

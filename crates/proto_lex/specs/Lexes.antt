@@ -1,10 +1,13 @@
-use Rattle.std.specs.Prelude.{◌≡◌, ℕ, ◌+◌, true, false, ◌||◌, cond, Option, Some, None, List, [], ◌∷◌, ◌++◌, length}
-use Rattle.std.specs.Prelude.{nat_eq}
+use Rattle.std.specs.Prelude.{◌≡◌, ℕ, ◌+◌, Bool, true, false, ◌||◌, cond, Option, Some, None, List, [], ◌∷◌, ◌++◌, length}
+use Rattle.std.specs.Prelude.{nat_eq, nat_le, nat_lt, ◌&&◌, not, is_some, reverse}
 use Rattle.std.specs.List.{list_all}
 use Rattle.proto_lex.specs.Bytes.{is_blank, is_letter, is_digit, is_word, is_quote, starts}
 use Rattle.proto_lex.specs.Numbers.{IsInteger, IsFloat, run_of}
 use Rattle.proto_lex.specs.Literals.{EndsLiteral}
 use Rattle.proto_lex.specs.Comments.{IsComment}
+use Rattle.proto_lex.specs.Hashes.{Where, Plain, Behind, Commented, behind, is_in_value, listed, past_token, past_odd}
+use Rattle.proto_lex.specs.declared.hashes.Hashes.{Hashes}
+use Rattle.proto_lex.specs.declared.hashes.Hashes.TheVariants.{Nowhere}
 use Rattle.proto_lex.specs.declared.span.Span.{Span}
 use Rattle.proto_lex.specs.declared.token.Token.{Token}
 use Rattle.proto_lex.specs.declared.token.TokenKind.{TokenKind}
@@ -74,23 +77,48 @@ pub record IsToken (k : TokenKind) (word rest : List ℕ) : Type 0 where
 abbrev pub part : (at count : ℕ) → Span
 part at count = record { start = at; end = at + count }
 
--- the bytes after a place in a text are blanks, comments and tokens in turn, with these tokens and comments
-pub data LexesFrom : (at : ℕ) (bytes : List ℕ) → List Token → List Comment → Type 0 where
-  at_end : {at : ℕ} → LexesFrom at [] [] []
-  blank : {at b : ℕ} {rest : List ℕ} {tokens : List Token} {comments : List Comment}
-      → is_blank b ≡ true → LexesFrom (at + 1) rest tokens comments → LexesFrom at (b ∷ rest) tokens comments
-  comment : {at : ℕ} {k : CommentKind} {word rest : List ℕ} {tokens : List Token} {comments : List Comment}
-      → IsComment k word rest → LexesFrom (at + length word) rest tokens comments
-      → LexesFrom at (word ++ rest) tokens (record { kind = k; span = part at (length word) } ∷ comments)
-  token : {at : ℕ} {k : TokenKind} {word rest : List ℕ} {tokens : List Token} {comments : List Comment}
-      → IsToken k word rest → LexesFrom (at + length word) rest tokens comments
-      → LexesFrom at (word ++ rest) (record { kind = k; span = part at (length word) } ∷ tokens) comments
+-- a character that begins no token (protoc takes DEL for one)
+abbrev pub is_odd : ℕ → Bool
+is_odd b =
+    (nat_lt ascii.space b && nat_le b ascii.delete)
+    && not (is_letter b || is_digit b || is_quote b || is_some (sign_kind b))
+
+-- whether such a character is the `#` of a comment, or in one
+abbrev pub is_odd_in : Where → ℕ → Bool
+is_odd_in Plain b = false
+is_odd_in (Behind tokens) b = nat_eq b ascii.hash && is_in_value 0 (reverse tokens)
+is_odd_in (Commented tokens depth) b = is_odd b
+
+-- the bytes after a place in a text are blanks, comments and tokens in turn, with these tokens and comments; those are
+-- left out that are in a comment that a `#` begins
+pub data LexesFrom : Where → (at : ℕ) (bytes : List ℕ) → List Token → List Comment → Type 0 where
+  at_end : {place : Where} {at : ℕ} → LexesFrom place at [] [] []
+  blank : {place : Where} {at b : ℕ} {rest : List ℕ} {tokens : List Token} {comments : List Comment}
+      → is_blank b ≡ true → LexesFrom place (at + 1) rest tokens comments
+      → LexesFrom place at (b ∷ rest) tokens comments
+  comment : {place : Where} {at : ℕ} {k : CommentKind} {word rest : List ℕ} {tokens : List Token}
+      {comments : List Comment}
+      → IsComment k word rest → LexesFrom place (at + length word) rest tokens comments
+      → LexesFrom place at (word ++ rest) tokens (record { kind = k; span = part at (length word) } ∷ comments)
+  token : {place : Where} {at : ℕ} {k : TokenKind} {word rest : List ℕ} {tokens : List Token} {comments : List Comment}
+      → IsToken k word rest
+      → LexesFrom (past_token place (record { kind = k; span = part at (length word) })) (at + length word) rest tokens
+      comments
+      → LexesFrom place at (word ++ rest) (listed place (record { kind = k; span = part at (length word) }) tokens)
+      comments
+  odd : {place : Where} {at b : ℕ} {rest : List ℕ} {tokens : List Token} {comments : List Comment}
+      → is_odd_in place b ≡ true → LexesFrom (past_odd place) (at + 1) rest tokens comments
+      → LexesFrom place at (b ∷ rest) tokens comments
 
 -- the text is a gap, a token, a gap and so on, where a gap is blanks and comments; a byte order mark at its very
 -- start is a blank (the profile's)
-pub data Lexes : (text : List ℕ) → (tokens : List Token) → (comments : List Comment) → Type 0 where
-  unmarked : {text : List ℕ} {tokens : List Token} {comments : List Comment} → LexesFrom 0 text tokens comments
-      → Lexes text tokens comments
+pub data LexesWith (hashes : Hashes) : (text : List ℕ) → (tokens : List Token) → (comments : List Comment) → Type 0 where
+  unmarked : {text : List ℕ} {tokens : List Token} {comments : List Comment}
+      → LexesFrom (behind hashes []) 0 text tokens comments → LexesWith hashes text tokens comments
   marked : {rest : List ℕ} {tokens : List Token} {comments : List Comment}
-      → LexesFrom 3 rest tokens comments
-      → Lexes (ascii.mark_first ∷ (ascii.mark_second ∷ (ascii.mark_third ∷ rest))) tokens comments
+      → LexesFrom (behind hashes []) 3 rest tokens comments
+      → LexesWith hashes (ascii.mark_first ∷ (ascii.mark_second ∷ (ascii.mark_third ∷ rest))) tokens comments
+
+-- the same, as proto3 has it
+abbrev pub Lexes : (text : List ℕ) → (tokens : List Token) → (comments : List Comment) → Type 0
+Lexes = LexesWith Nowhere

@@ -1,4 +1,4 @@
-use Rattle.std.specs.Prelude.{◌≡◌, ℕ, zero, suc, ◌+◌, ◌-◌, ◌⊎◌, Bool, true, false, ◌||◌, ◌&&◌, not, cond, Option, Some}
+use Rattle.std.specs.Prelude.{◌≡◌, ℕ, zero, suc, ◌+◌, ◌-◌, ◌<◌, ◌≤◌, ◌⊎◌, Bool, true, false, ◌||◌, ◌&&◌, not, cond, Option, Some}
 use Rattle.std.specs.Prelude.{None, Result, Ok, Err, List, [], ◌∷◌, ◌++◌, length, take, drop, nat_eq, nat_le}
 use Rattle.std.specs.List.{list_all, prefix_len}
 use Rattle.proto_lex.specs.Bytes.{is_blank, is_letter, is_digit, is_octal_digit, is_hex_digit, is_word}
@@ -6,7 +6,9 @@ use Rattle.proto_lex.specs.Bytes.{is_plus_or_minus, is_exponent_mark, is_hex_mar
 use Rattle.proto_lex.specs.Numbers.{begins_number, run_of}
 use Rattle.proto_lex.specs.Literals.{is_escape_letter}
 use Rattle.proto_lex.specs.Comments.{begins_close}
-use Rattle.proto_lex.specs.Lexes.{sign_kind, part}
+use Rattle.proto_lex.specs.Hashes.{Where, Behind, Commented, behind, opened, listed, past_token, past_odd}
+use Rattle.proto_lex.specs.Lexes.{sign_kind, is_odd_in, part}
+use Rattle.proto_lex.specs.declared.hashes.Hashes.{Hashes}
 use Rattle.proto_lex.specs.declared.fault.LexFault.{LexFault}
 use Rattle.proto_lex.specs.declared.fault.LexFault.TheVariants.{Memory, BadByte, OpenString, OpenComment, BadEscape}
 use Rattle.proto_lex.specs.declared.fault.LexFault.TheVariants.{BadNumber}
@@ -170,6 +172,38 @@ piece_at at (b ∷ others) =
     cond (nat_eq b ascii.slash) (slash_at at others) (
     signed at (sign_kind b))))))
 
+-- what is at a place, where a `#` may begin a comment, or is in one
+
+abbrev pub odd_piece : Piece
+odd_piece = record { kind = piece.Odd; len = 1 }
+
+unfoldable pub piece_in : Where → ℕ → List ℕ → Read Piece
+piece_in place at [] = piece_at at []
+piece_in place at (b ∷ others) = cond (is_odd_in place b) (Ok odd_piece) (piece_at at (b ∷ others))
+
+-- whether the comment of a `#`, in which so many braces are open, ends before these bytes
+abbrev pub comment_ends : (depth : ℕ) → List ℕ → Bool
+comment_ends depth [] = true
+comment_ends zero (b ∷ others) = nat_eq b ascii.close_brace
+comment_ends (suc depth) (b ∷ others) = false
+
+-- what is listed of a piece that is in it
+abbrev pub kept_kind : PieceKind → PieceKind
+kept_kind (piece.Comment k) = piece.Comment k
+kept_kind _ = piece.Blank
+
+-- how many braces are open in it behind a piece
+abbrev pub opened_by : ℕ → PieceKind → ℕ
+opened_by depth (piece.Token k) = opened depth k
+opened_by depth _ = depth
+
+-- where it is behind a piece
+abbrev pub past_piece : Where → PieceKind → (at len : ℕ) → Where
+past_piece place piece.Blank at len = place
+past_piece place piece.Odd at len = past_odd place
+past_piece place (piece.Comment k) at len = place
+past_piece place (piece.Token k) at len = past_token place (record { kind = k; span = part at len })
+
 -- the whole text
 
 pub record Pieces : Type 0 where
@@ -187,35 +221,64 @@ joined front (Ok later) = Ok (pieces (front.tokens ++ later.tokens) (front.comme
 -- the pieces read so far, and the one at a span
 abbrev pub with_last : Pieces → PieceKind → Span → Pieces
 with_last front piece.Blank span = front
+with_last front piece.Odd span = front
 with_last front (piece.Comment k) span =
     record front { comments = front.comments ++ record { kind = k; span = span } ∷ [] }
 with_last front (piece.Token k) span = record front { tokens = front.tokens ++ record { kind = k; span = span } ∷ [] }
 
 -- a piece, and those after it
-abbrev pub with_first : PieceKind → ℕ → ℕ → Pieces → Pieces
-with_first piece.Blank at len later = later
-with_first (piece.Comment k) at len later =
+abbrev pub with_first : Where → PieceKind → ℕ → ℕ → Pieces → Pieces
+with_first place piece.Blank at len later = later
+with_first place piece.Odd at len later = later
+with_first place (piece.Comment k) at len later =
     record later { comments = record { kind = k; span = part at len } ∷ later.comments }
-with_first (piece.Token k) at len later =
-    record later { tokens = record { kind = k; span = part at len } ∷ later.tokens }
+with_first place (piece.Token k) at len later =
+    record later { tokens = listed place (record { kind = k; span = part at len }) later.tokens }
 
 -- the pieces from a place on, where the next `skip` bytes belong to the piece before
-unfoldable pub pieces_at : (skip at : ℕ) → List ℕ → Read Pieces
-pieces_at skip at [] = Ok (pieces [] [])
-pieces_at (suc skip) at (b ∷ others) = pieces_at skip (at + 1) others
-pieces_at zero at (b ∷ others) =
-    piece_at at (b ∷ others) >>= λ p. pieces_at (p.len - 1) (at + 1) others >>= λ later. Ok
-    (with_first p.kind at p.len later)
+unfoldable pub pieces_at : Where → (skip at : ℕ) → List ℕ → Read Pieces
+pieces_at place skip at [] = Ok (pieces [] [])
+pieces_at place (suc skip) at (b ∷ others) = pieces_at place skip (at + 1) others
+pieces_at place zero at (b ∷ others) =
+    piece_in place at (b ∷ others) >>= λ p. pieces_at (past_piece place p.kind at p.len) (p.len - 1) (at + 1) others
+    >>= λ later. Ok (with_first place p.kind at p.len later)
 
 abbrev pub mark_len : List ℕ → ℕ
 mark_len (a ∷ (b ∷ (c ∷ rest))) =
     cond (nat_eq a ascii.mark_first && nat_eq b ascii.mark_second && nat_eq c ascii.mark_third) 3 0
 mark_len _ = 0
 
-unfoldable pub pieces_of : List ℕ → Read Pieces
-pieces_of text = pieces_at 0 (mark_len text) (drop (mark_len text) text)
+unfoldable pub pieces_of : Hashes → List ℕ → Read Pieces
+pieces_of hashes text = pieces_at (behind hashes []) 0 (mark_len text) (drop (mark_len text) text)
 
 -- memory ran out, or the answer is what is read
 abbrev pub GivesPieces : {X : Type 0} → (X → Pieces) → Result X LexFault → Read Pieces → Type 0
 GivesPieces view (Ok x) read = read ≡ Ok (view x)
 GivesPieces view (Err fault) read = (fault ≡ Memory) ⊎ (read ≡ Err fault)
+
+-- The pieces `old`, and those after a `#` that begins a comment, are `new` and those behind the comment, which takes so
+-- many bytes.
+pub record PassesTo (old new : Pieces) (at : ℕ) (bytes : List ℕ) (len : ℕ) : Type 0 where
+  pub within : len ≤ length bytes
+  pub tokens : new.tokens ≡ old.tokens
+  pub read : (tokens : List Token) → joined old (pieces_at (Commented tokens 0) 0 at bytes)
+      ≡ joined new (pieces_at (Behind tokens) 0 (at + len) (drop len bytes))
+
+-- memory ran out, or so it is read past the comment
+abbrev pub PassesComment : (old new : Pieces) (at : ℕ) (bytes : List ℕ) → Result ℕ LexFault → Type 0
+PassesComment old new at bytes (Ok len) = PassesTo old new at bytes len
+PassesComment old new at bytes (Err fault) =
+    (fault ≡ Memory) ⊎ ((tokens : List Token) → pieces_at (Commented tokens 0) 0 at bytes ≡ Err fault)
+
+-- the pieces `old`, and those after them, are `new` and those behind so many bytes
+pub record ReadsTo (hashes : Hashes) (old new : Pieces) (at : ℕ) (bytes : List ℕ) (len : ℕ) : Type 0 where
+  pub some : 0 < len
+  pub within : len ≤ length bytes
+  pub read : joined old (pieces_at (behind hashes old.tokens) 0 at bytes)
+      ≡ joined new (pieces_at (behind hashes new.tokens) 0 (at + len) (drop len bytes))
+
+-- memory ran out, or so it is read
+abbrev pub ReadsPiece : (hashes : Hashes) (old new : Pieces) (at : ℕ) (bytes : List ℕ) → Result ℕ LexFault → Type 0
+ReadsPiece hashes old new at bytes (Ok len) = ReadsTo hashes old new at bytes len
+ReadsPiece hashes old new at bytes (Err fault) =
+    (fault ≡ Memory) ⊎ (pieces_at (behind hashes old.tokens) 0 at bytes ≡ Err fault)

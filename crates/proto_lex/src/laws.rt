@@ -1,7 +1,7 @@
 //! Laws: what the definitions say about texts, tokens and positions, whatever the code does.
 
 ghost use Rattle.proto_lex.specs.LexLaws.{OneTokens, OneComments, OneFirstFault, NoFaultWhereItLexes, LexesOrFaults};
-ghost use Rattle.proto_lex.specs.LexLaws.{LongestToken};
+ghost use Rattle.proto_lex.specs.LexLaws.{LexesAlike, LongestToken};
 ghost use Rattle.proto_lex.specs.PositionLaws.{CharactersRise, BytesRise, LinesFit, ColumnsFit, ByteColumnsFit};
 ghost use Rattle.proto_lex.specs.PositionLaws.{ColumnsCountUtf16, Utf16ColumnsFit};
 
@@ -35,6 +35,11 @@ pub fn one_first_fault()
     ensures one { OneFirstFault }
     ensures none { NoFaultWhereItLexes }
     ensures or_lexes { LexesOrFaults }
+{}
+
+/// A text that lexes though no `#` begins a comment lexes alike where one may.
+pub fn hashes_change_no_lexing()
+    ensures { LexesAlike }
 {}
 
 /// A token is as long as it can be: no longer spelling of a token begins at its place.

@@ -1,20 +1,25 @@
 //! From a text to its tokens and comments.
+//!
+//! What the loop over a text calls for each piece is inlined there, and what reads comments of a `#` is out of its way.
 
-ghost use Rattle.std.specs.Prelude.{◌≡◌, ◌≤◌, ◌⊎◌, List, length, IfOk, IfErr, OnOk, IsOkUnless};
+ghost use Rattle.std.specs.Prelude.{◌≡◌, ◌+◌, ◌<◌, ◌≤◌, ◌⊎◌, List, length, IfOk, IfErr, OnOk, IsOkUnless};
 ghost use Rattle.proto_lex.specs.declared.token.Token.{Token};
 ghost use Rattle.proto_lex.specs.declared.token.Comment.{Comment};
-ghost use Rattle.proto_lex.specs.Faults.{IsFirstFault};
-ghost use Rattle.proto_lex.specs.Lexes.{Lexes};
-ghost use Rattle.proto_lex.specs.Reading.{pieces, with_last, mark_len, pieces_of, GivesPieces};
+ghost use Rattle.proto_lex.specs.Faults.{IsFirstFault, IsFirstFaultWith};
+ghost use Rattle.proto_lex.specs.Lexes.{Lexes, LexesWith, part};
+ghost use Rattle.proto_lex.specs.Reading.{pieces, with_last, mark_len, pieces_of, GivesPieces, PassesComment, ReadsPiece};
 ghost use Rattle.proto_lex.specs.Text.{max_text_length};
 
 mod bytes;
+mod hash;
 mod literal;
 mod number;
 mod piece;
 
 use crate::fault::LexFault;
+use crate::hashes::Hashes;
 use crate::lexer::bytes::{blank_len, tail};
+use crate::lexer::hash::{begins_comment, comment_ends, commented_at, kept_kind, opened_by};
 use crate::lexer::piece::{PieceKind, piece_at};
 use crate::span::Span;
 use crate::text::Text;
@@ -36,13 +41,14 @@ struct Pieces {
 }
 
 /// Adds what is at `span`, if it is a token or a comment.
+#[inline(always)]
 fn push_piece(found: &mut Pieces, kind: PieceKind, span: Span) -> Result<(), LexFault>
     ensures pushed { OnOk result (pieces found.new.tokens.items found.new.comments.items
         ≡ with_last (pieces found.old.tokens.items found.old.comments.items) kind span) }
     ensures memory { IfErr result (λ fault. fault ≡ LexFault.Memory) }
 {
     match kind {
-        PieceKind::Blank => {}
+        PieceKind::Blank | PieceKind::Odd => {}
         PieceKind::Comment(kind) => found.comments.push(Comment { kind, span })?,
         PieceKind::Token(kind) => found.tokens.push(Token { kind, span })?,
     }
@@ -59,10 +65,75 @@ fn mark_len(bytes: &[u8]) -> usize
     }
 }
 
+/// The part of a text that takes so many bytes from a place on.
+fn part(at: usize, len: usize) -> Span
+    requires { at + len ≤ max_text_length }
+    ensures { result ≡ part at len }
+{
+    Span {
+        start: at as u32,
+        end: (at + len) as u32,
+    }
+}
+
+/// Adds the comments in a comment that a `#` before these bytes begins, which are at `at`. Gives how many bytes it takes.
+#[cold]
+#[inline(never)]
+fn pass_comment(found: &mut Pieces, bytes: &[u8], at: usize) -> Result<usize, LexFault>
+    requires { at + length bytes.now ≤ max_text_length }
+    ensures { PassesComment (pieces found.old.tokens.items found.old.comments.items)
+        (pieces found.new.tokens.items found.new.comments.items) at bytes.now result }
+{
+    let mut depth: usize = 0;
+    let mut len: usize = 0;
+    let mut rest = bytes;
+    'pieces: while !comment_ends(depth, rest) {
+        let here = at + len;
+        let piece = commented_at(rest, here)?;
+        let span = part(here, piece.len);
+        let kept = kept_kind(piece.kind);
+        push_piece(found, kept, span)?;
+        depth = opened_by(depth, piece.kind);
+        rest = tail(rest, piece.len);
+        len += piece.len;
+    }
+    Ok(len)
+}
+
+/// Adds what these bytes begin with, which are at `at`. Gives how many bytes it takes.
+fn read_piece(
+    found: &mut Pieces,
+    hashes: Hashes,
+    bytes: &[u8],
+    at: usize,
+) -> Result<usize, LexFault>
+    requires some { 0 < length bytes.now }
+    requires fits { at + length bytes.now ≤ max_text_length }
+    ensures { ReadsPiece hashes (pieces found.old.tokens.items found.old.comments.items)
+        (pieces found.new.tokens.items found.new.comments.items) at bytes.now result }
+{
+    match piece_at(bytes, at) {
+        Ok(piece) => {
+            let span = part(at, piece.len);
+            push_piece(found, piece.kind, span)?;
+            Ok(piece.len)
+        }
+        Err(fault) => {
+            if begins_comment(hashes, &found.tokens, bytes) {
+                let len = pass_comment(found, tail(bytes, 1), at + 1)?;
+                Ok(1 + len)
+            } else {
+                Err(fault)
+            }
+        }
+    }
+}
+
 /// The tokens and comments of a text, or the fault that reading from left to right meets first.
-fn read_pieces(alloc: Global, bytes: &[u8]) -> Result<Pieces, LexFault>
+fn read_pieces(alloc: Global, bytes: &[u8], hashes: Hashes) -> Result<Pieces, LexFault>
     requires { length bytes.now ≤ max_text_length }
-    ensures { GivesPieces (λ found. pieces found.tokens.items found.comments.items) result (pieces_of bytes.now) }
+    ensures { GivesPieces (λ found. pieces found.tokens.items found.comments.items) result
+        (pieces_of hashes bytes.now) }
 {
     let tokens = Vec::with_capacity(alloc, bytes.len() / BYTES_A_TOKEN)?;
     let comments = Vec::with_capacity(alloc, bytes.len() / BYTES_A_COMMENT)?;
@@ -70,14 +141,9 @@ fn read_pieces(alloc: Global, bytes: &[u8]) -> Result<Pieces, LexFault>
     let mut at = mark_len(bytes);
     let mut rest = tail(bytes, at);
     while !rest.is_empty() {
-        let piece = piece_at(rest, at)?;
-        let end = at + piece.len;
-        let span = Span {
-            start: at as u32,
-            end: end as u32,
-        };
-        push_piece(&mut found, piece.kind, span)?;
-        let behind = tail(rest, piece.len);
+        let len = read_piece(&mut found, hashes, rest, at)?;
+        let end = at + len;
+        let behind = tail(rest, len);
         let blanks = blank_len(behind);
         rest = tail(behind, blanks);
         at = end + blanks;
@@ -85,7 +151,7 @@ fn read_pieces(alloc: Global, bytes: &[u8]) -> Result<Pieces, LexFault>
     Ok(found)
 }
 
-/// The tokens and comments of a text (proto3 specification, "Lexical elements").
+/// The tokens and comments of a text (proto3 specification, "Lexical elements"), in which no `#` begins a comment.
 ///
 /// A text has at most one lexing, and it is found where there is one. Otherwise the fault is the
 /// one that reading from left to right meets first:
@@ -108,6 +174,24 @@ pub fn lex<'a, 't>(alloc: Global, text: &'a Text<'t>) -> Result<Tokens<'a, 't>, 
         → IfOk result (λ found. found ≡ record { text = text.now; tokens = tokens; comments = comments }) }
     ensures fault { IfErr result (λ fault. (fault ≡ LexFault.Memory) ⊎ IsFirstFault text.now fault) }
 {
-    let found = read_pieces(alloc, text.as_str().as_bytes())?;
+    lex_with(alloc, text, Hashes::Nowhere)
+}
+
+/// The same, if a `#` begins a comment there. What is in such a comment is checked, but of it only comments of the other
+/// kinds are listed.
+pub fn lex_with<'a, 't>(
+    alloc: Global,
+    text: &'a Text<'t>,
+    hashes: Hashes,
+) -> Result<Tokens<'a, 't>, LexFault>
+    ensures text { IfOk result (λ found. found.text ≡ text.now) }
+    ensures found { IfOk result (λ found. LexesWith hashes text.now found.tokens found.comments) }
+    ensures accepted { (tokens : List Token) → (comments : List Comment) → LexesWith hashes text.now tokens comments
+        → IsOkUnless result LexFault.Memory }
+    ensures only { (tokens : List Token) → (comments : List Comment) → LexesWith hashes text.now tokens comments
+        → IfOk result (λ found. found ≡ record { text = text.now; tokens = tokens; comments = comments }) }
+    ensures fault { IfErr result (λ fault. (fault ≡ LexFault.Memory) ⊎ IsFirstFaultWith hashes text.now fault) }
+{
+    let found = read_pieces(alloc, text.as_str().as_bytes(), hashes)?;
     Ok(Tokens::new(text, found.tokens, found.comments))
 }

@@ -8,6 +8,7 @@ mod text;
 
 // From a text to its tokens and comments.
 mod fault;
+mod hashes;
 mod lexer;
 mod token;
 mod tokens;
@@ -16,10 +17,12 @@ mod tokens;
 mod laws;
 
 pub use fault::LexFault;
+pub use hashes::Hashes;
 pub use laws::{
-    columns_count_utf16, longest_token, one_first_fault, one_lexing, positions_fit, positions_rise,
+    columns_count_utf16, hashes_change_no_lexing, longest_token, one_first_fault, one_lexing,
+    positions_fit, positions_rise,
 };
-pub use lexer::lex;
+pub use lexer::{lex, lex_with};
 pub use position::{Encoding, Position};
 pub use span::Span;
 pub use text::{MAX_TEXT_LENGTH, Text};

@@ -50,7 +50,9 @@ pub enum TokenKind {
 /// A token: its kind, and where its spelling is.
 #[derive(Clone, Copy, Debug, PartialEq, Eq)]
 pub struct Token {
+    /// What it is.
     pub kind: TokenKind,
+    /// Where its spelling is.
     pub span: Span,
 }
 
@@ -66,6 +68,8 @@ pub enum CommentKind {
 /// A comment: its kind, and where it is, with its marks.
 #[derive(Clone, Copy, Debug, PartialEq, Eq)]
 pub struct Comment {
+    /// Whether it ends with its line.
     pub kind: CommentKind,
+    /// Where it is, with its marks.
     pub span: Span,
 }

@@ -2,8 +2,8 @@
 
 ghost use Rattle.std.specs.Prelude.{◌≡◌, ℕ, ◌<◌, length, drop, map, All, IfSome, slice_get};
 ghost use Rattle.proto_lex.specs.Comments.{IsComment};
-ghost use Rattle.proto_lex.specs.Lexes.{Spells, Lexes};
-ghost use Rattle.proto_lex.specs.Lexed.{IsPart, AreInOrder, AreApart, IsLexed, part_of};
+ghost use Rattle.proto_lex.specs.Lexes.{Spells};
+ghost use Rattle.proto_lex.specs.Lexed.{IsPart, AreInOrder, AreApart, IsLexed, LexesSomehow, part_of};
 
 use crate::text::Text;
 use crate::token::{Comment, Token};
@@ -61,7 +61,7 @@ impl<'a, 't> Tokens<'a, 't> {
     /// The tokens, in order of place.
     pub fn tokens(&self) -> &[Token]
         ensures value { result.now ≡ self.now.tokens }
-        ensures lexed { Lexes self.now.text self.now.tokens self.now.comments }
+        ensures lexed { LexesSomehow self.now.text self.now.tokens self.now.comments }
         ensures parts { All (λ t. IsPart self.now.text t.span) self.now.tokens }
         ensures spelled { All (λ t. Spells t.kind (part_of self.now.text t.span)) self.now.tokens }
         ensures in_order { AreInOrder 0 (map (λ t. t.span) self.now.tokens) }

@@ -269,12 +269,13 @@ module _ (good : NothingIsLeftOutOfGoodFiles) where
         → HasContents settings.faulty settings.dialect (form_of settings) allows number file contents
         → HasContents another.faulty another.dialect (form_of another) allows number file contents
     read_so number file parsed_file at there (Ok contents) is has =
-        subst (λ form. AreContentsOf another.dialect form file.is_included allows number file.text contents) same.form
-        (subst (λ d. AreContentsOf d (form_of settings) file.is_included allows number file.text contents) same.dialect
-        has)
+        subst (λ form. AreContentsOf another.dialect form file.is_included file.is_unread allows number file.text
+        contents) same.form
+        (subst (λ d. AreContentsOf d (form_of settings) file.is_included file.is_unread allows number file.text
+        contents) same.dialect has)
     read_so number file parsed_file at there (Err fault) is has = (
       included file.is_included refl,
-      subst (λ c. IsUnreadable c file.text fault) same.dialect has.1,
+      subst (λ c. IsUnreadable c file.is_unread file.text fault) same.dialect has.1,
     )
       where
         linked : File

@@ -333,7 +333,7 @@ module _ (apart : NoFactsWhereUnreadable) (one_beside : OneBesideAFile) (allows 
 record IsNamed (dialect : Dialect) (tree : List TreeFile) (number : ℕ) (fault : FileFault) : Type 0 where
   file : TreeFile
   numbered : slice_get tree number ≡ Some file
-  unreadable : IsUnreadable dialect file.text fault
+  unreadable : IsUnreadable dialect file.is_unread file.text fault
 
 named : (settings : Settings) (allows : Seen → Choice → Type 0) (tree : List TreeFile) (workers number : ℕ)
     (fault : FileFault) → IsBuildFault allows settings tree workers (build.File number fault)
@@ -358,8 +358,9 @@ file_fault_is_one one allows others settings tree workers more number fault othe
     let first = named settings allows tree workers number fault is in
     let second = named settings others tree more number other also in
     let same : first.file ≡ second.file = same_Some first.file second.file (sym first.numbered ∙ second.numbered) in
-    let Of : TreeFile → Type 0 = λ file. IsUnreadable settings.dialect file.text other in
-    one settings.dialect first.file.text fault other first.unreadable (subst Of (sym same) second.unreadable)
+    let Of : TreeFile → Type 0 = λ file. IsUnreadable settings.dialect file.is_unread file.text other in
+    one settings.dialect first.file.is_unread first.file.text fault other first.unreadable
+    (subst Of (sym same) second.unreadable)
 
 -- the fault that a cause says, but of a file
 of_cause : Cause → BuildFault

@@ -71,7 +71,7 @@ unreadable : (faulty : Faulty) (dialect : Dialect) (form : ReadForm) (allows : S
     (tree : List TreeFile) (parsed : List ReadFile) → AreParsedFiles faulty dialect form allows tree parsed
     → (number : ℕ) (fault : FileFault)
     → HasFault parsed number fault
-    → (file : TreeFile) × (slice_get tree number ≡ Some file) × IsUnreadable dialect file.text fault
+    → (file : TreeFile) × (slice_get tree number ≡ Some file) × IsUnreadable dialect file.is_unread file.text fault
 unreadable faulty dialect form allows tree parsed are number fault has =
     let within : number < length tree =
     rw (sym are.one_each) (slice_get_within parsed number has.parsed_file has.numbered) in
@@ -83,8 +83,8 @@ unreadable faulty dialect form allows tree parsed are number fault has =
 module _ (apart : NoFactsWhereUnreadable) (allows others : Seen → Choice → Type 0) (faulty another : Faulty)
     (dialect : Dialect) (form : ReadForm) where
   chosen_alike : OneListOfFacts → AllowOne allows others → (number : ℕ) (file : TreeFile) (a b : FileContents)
-      → AreContentsOf dialect form file.is_included allows number file.text a
-      → AreContentsOf dialect form file.is_included others number file.text b
+      → AreContentsOf dialect form file.is_included file.is_unread allows number file.text a
+      → AreContentsOf dialect form file.is_included file.is_unread others number file.text b
       → a.choices ≡ b.choices
   chosen_alike one agree number file a b has also =
       let facts : a.facts ≡ b.facts =
@@ -254,9 +254,9 @@ module _ (one : OneListOfFacts) (one_beside : OneBesideAFile) (apart : NoFactsWh
       let x = unreadable settings.faulty settings.dialect (form_of settings) allows tree all is.read number fault has in
       let y = unreadable another.faulty another.dialect (form_of another) others tree again also.read number more too in
       let file : x.0 ≡ y.0 = same_Some x.0 y.0 (sym x.1 ∙ y.1) in
-      let bytes = subst (λ (f : TreeFile). IsUnreadable another.dialect f.text more) (sym file) y.2 in
-      one_fault settings.dialect x.0.text fault more x.2
-      (subst (λ c. IsUnreadable c x.0.text more) (sym same.dialect) bytes)
+      let bytes = subst (λ (f : TreeFile). IsUnreadable another.dialect f.is_unread f.text more) (sym file) y.2 in
+      one_fault settings.dialect x.0.is_unread x.0.text fault more x.2
+      (subst (λ c. IsUnreadable c x.0.is_unread x.0.text more) (sym same.dialect) bytes)
 
   of_left : (number : ℕ) (omission : FileOmission) (told : Omission) → slice_get b number ≡ Some (Some omission)
       → IsOmission another.duplicates (linked_files again) b number (Some omission) → IsLeftFor all number omission told

@@ -1,13 +1,13 @@
 -- Proofs of the laws.
 use Rattle.std.proofs.Common.{◌≡◌, ◌∙◌, ◌⊎◌, inl, inr, ℕ, ◌<◌, ◌≤◌, Bool, true, false, List, length, ap, refl, sym}
-use Rattle.std.proofs.Common.{subst}
+use Rattle.std.proofs.Common.{subst, true≢false}
 use Rattle.std.proofs.Common.{arith}
 use Rattle.std.specs.Str.{IsUtf8, IsValidUpTo}
 use Rattle.std.proofs.lemmas.List.{take_all}
 use Rattle.std.proofs.lemmas.Bool.{cases_order}
 use Rattle.proto_lex.specs.Text.{IsText, IsNoText, max_text_length}
 use Rattle.proto_lex.specs.Lexed.{Lexed}
-use Rattle.proto_lex.specs.Lexes.{Lexes}
+use Rattle.proto_parse.specs.Syntax.{hashes_in}
 use Rattle.proto_lex.specs.LexLaws.{OneTokens, OneComments, OneFirstFault, NoFaultWhereItLexes}
 use Rattle.proto_lex.specs.declared.fault.LexFault.{LexFault}
 use Rattle.proto_lex.specs.declared.fault.LexFault.TheVariants.{TooLong, NotUtf8, BadByte, OpenString, OpenComment}
@@ -23,11 +23,12 @@ use Rattle.proto_parse.specs.Refused.{HasFault}
 use Rattle.proto_decl.specs.Facts.{Facts, AreFactsOf}
 use Rattle.proto_decl.specs.Laws.{OneFacts}
 use Rattle.proto_options.specs.Fields.{fields_in}
+use Rattle.proto_options.specs.Messages.{messages_in}
 use Rattle.proto_options.specs.Laws.{OneListOfOptions}
 use Rattle.proto_options.specs.Options.{AreOptionsOf}
 use Rattle.scip_build.specs.declared.fault.FileFault.{FileFault}
-use Rattle.scip_build.specs.declared.fault.FileFault.TheVariants.{Lex, Syntax}
-use Rattle.scip_build.specs.Parsed.{form_by, HasLexing, AreFactsIn, IsUnlexed, IsUnparsed}
+use Rattle.scip_build.specs.declared.fault.FileFault.TheVariants.{Unread, Lex, Syntax}
+use Rattle.scip_build.specs.Parsed.{form_by, HasLexing, AreFactsIn, IsUnlexed, IsUnparsed, IsUnreadable}
 use Rattle.source_tree.specs.Files.{TreeFile}
 use Rattle.scip_build.specs.ParsedFiles.{IsFirstFaulty}
 use Rattle.scip_build.specs.Laws.{OneListOfFacts, NoFactsWhereUnreadable, LexedWhereUnparsed, OneFileFault}
@@ -89,25 +90,24 @@ one_reason bytes fault other (inl a) (inr b) = absurd (omega (arith, a.1, b.2))
 one_reason bytes fault other (inr a) (inl b) = absurd (omega (arith, b.1, a.2))
 one_reason bytes fault other (inr a) (inr b) = a.1 ∙ (ap NotUtf8 (one_offset bytes a.0 b.0 a.3 b.3) ∙ sym b.1)
 
-one_unlexed : OneFirstFault → (bytes : List ℕ) (fault other : LexFault) → IsUnlexed bytes fault → IsUnlexed bytes other
-    → fault ≡ other
-one_unlexed one bytes fault other (inl a) (inl b) =
+one_unlexed : OneFirstFault → (dialect : Dialect) (bytes : List ℕ) (fault other : LexFault)
+    → IsUnlexed dialect bytes fault → IsUnlexed dialect bytes other → fault ≡ other
+one_unlexed one dialect bytes fault other (inl a) (inl b) =
     one_reason bytes fault other (reason bytes fault a) (reason bytes other b)
-one_unlexed one bytes fault other (inl a) (inr b) = absurd (text_is_text bytes fault b.0 a)
-one_unlexed one bytes fault other (inr a) (inl b) = absurd (text_is_text bytes other a.0 b)
-one_unlexed one bytes fault other (inr a) (inr b) = one bytes fault other a.1 b.1
+one_unlexed one dialect bytes fault other (inl a) (inr b) = absurd (text_is_text bytes fault b.0 a)
+one_unlexed one dialect bytes fault other (inr a) (inl b) = absurd (text_is_text bytes other a.0 b)
+one_unlexed one dialect bytes fault other (inr a) (inr b) = one (hashes_in dialect) bytes fault other a.1 b.1
 
 module _ (one_tokens : OneTokens) (one_comments : OneComments) where
   -- a file has one lexing
-  same_lexing : (bytes : List ℕ) (lexed other : Lexed) → HasLexing bytes lexed → HasLexing bytes other → lexed ≡ other
-  same_lexing bytes lexed other a b =
+  same_lexing : (dialect : Dialect) (bytes : List ℕ) (lexed other : Lexed) → HasLexing dialect bytes lexed
+      → HasLexing dialect bytes other → lexed ≡ other
+  same_lexing dialect bytes lexed other a b =
       let same_text : lexed.text ≡ other.text = a.of_bytes ∙ sym b.of_bytes in
-      let Of : List ℕ → Type 0 = λ text. Lexes text other.tokens other.comments in
-      let lexes : Lexes lexed.text other.tokens other.comments = subst Of (sym same_text) b.is_lexed.lexes in
       let tokens : lexed.tokens ≡ other.tokens =
-      one_tokens lexed.text lexed.tokens other.tokens lexed.comments other.comments a.is_lexed.lexes lexes in
+      one_tokens (hashes_in dialect) bytes lexed.tokens other.tokens lexed.comments other.comments a.lexes b.lexes in
       let comments : lexed.comments ≡ other.comments =
-      one_comments lexed.text lexed.tokens other.tokens lexed.comments other.comments a.is_lexed.lexes lexes in
+      one_comments (hashes_in dialect) bytes lexed.tokens other.tokens lexed.comments other.comments a.lexes b.lexes in
       λ i. record { text = same_text i; tokens = tokens i; comments = comments i }
 
   pub one_list_of_facts : OneTree → OneFacts → OneListOfFacts
@@ -116,18 +116,20 @@ module _ (one_tokens : OneTokens) (one_comments : OneComments) where
       λ lexed. Derives dialect lexed.text lexed.tokens b.tree
       × AreFactsOf (form_by dialect form) number lexed b.tree other in
       let moved : Here a.lexed =
-      subst Here (sym (same_lexing bytes a.lexed b.lexed a.lexing b.lexing)) (b.derives, b.of_tree) in
+      subst Here (sym (same_lexing dialect bytes a.lexed b.lexed a.lexing b.lexing)) (b.derives, b.of_tree) in
       let trees : a.tree ≡ b.tree = one_tree dialect a.lexed.text a.lexed.tokens a.tree b.tree a.derives moved.0 in
       let Of : File → Type 0 = λ tree. AreFactsOf (form_by dialect form) number a.lexed tree other in
-      one_facts (form_by dialect form) number a.lexed a.tree facts other a.lexing.is_lexed a.of_tree (subst Of (sym trees) moved.1)
+      one_facts (form_by dialect form) number a.lexed a.tree facts other a.lexing.is_lexed a.of_tree
+      (subst Of (sym trees) moved.1)
 
   -- what is known beside them is one, too
   pub one_beside : OneTree → OneListOfOptions → OneBesideAFile
   one_beside one_tree one_options bytes is_included beside other a b =
       let Here : Lexed → Type 0 = λ lexed. Derives All lexed.text lexed.tokens b.tree
-      × (is_included ≡ false → AreOptionsOf All lexed b.tree other.options) in
+      × (is_included ≡ false → AreOptionsOf All lexed b.tree other.options)
+      × (other.messages ≡ messages_in lexed b.tree) in
       let moved : Here a.lexed =
-      subst Here (sym (same_lexing bytes a.lexed b.lexed a.lexing b.lexing)) (b.derives, b.of_source) in
+      subst Here (sym (same_lexing All bytes a.lexed b.lexed a.lexing b.lexing)) (b.derives, b.of_source, b.messages) in
       let trees : a.tree ≡ b.tree = one_tree All a.lexed.text a.lexed.tokens a.tree b.tree a.derives moved.0 in
       let fields : beside.fields ≡ other.fields = a.fields ∙ (ap fields_in trees ∙ sym b.fields) in
       let Of : File → Type 0 = λ tree. AreOptionsOf All a.lexed tree other.options in
@@ -135,7 +137,9 @@ module _ (one_tokens : OneTokens) (one_comments : OneComments) where
       (λ source. one_options a.lexed a.tree beside.options other.options (a.of_source source)
       (subst Of (sym trees) (moved.1 source)))
       (λ included. a.of_included included ∙ sym (b.of_included included)) in
-      λ i. record { options = options i; fields = fields i }
+      let messages : beside.messages ≡ other.messages =
+      a.messages ∙ (ap (messages_in a.lexed) trees ∙ sym moved.2) in
+      λ i. record { options = options i; fields = fields i; messages = messages i }
     where
       by : (flag : Bool) → is_included ≡ flag → (is_included ≡ false → beside.options ≡ other.options)
           → (is_included ≡ true → beside.options ≡ other.options) → beside.options ≡ other.options
@@ -144,17 +148,28 @@ module _ (one_tokens : OneTokens) (one_comments : OneComments) where
 
   -- so two faults of one file are one
   pub one_file_fault : OneFirstFault → OneSyntaxFault → LexedWhereUnparsed → OneFileFault
-  one_file_fault one one_syntax apart dialect bytes (Lex fault) (Lex other) is also =
-      ap Lex (one_unlexed one bytes fault other is also)
-  one_file_fault one one_syntax apart dialect bytes (Lex fault) (Syntax other) is also =
-      absurd (apart dialect bytes fault other also is)
-  one_file_fault one one_syntax apart dialect bytes (Syntax fault) (Lex other) is also =
-      absurd (apart dialect bytes other fault is also)
-  one_file_fault one one_syntax apart dialect bytes (Syntax fault) (Syntax other) is also =
+  one_file_fault one one_syntax apart dialect is_unread bytes Unread Unread is also = refl
+  one_file_fault one one_syntax apart dialect is_unread bytes Unread (Lex other) is also =
+      absurd (true≢false (sym is ∙ also.0))
+  one_file_fault one one_syntax apart dialect is_unread bytes Unread (Syntax other) is also =
+      absurd (true≢false (sym is ∙ also.0))
+  one_file_fault one one_syntax apart dialect is_unread bytes (Lex fault) Unread is also =
+      absurd (true≢false (sym also ∙ is.0))
+  one_file_fault one one_syntax apart dialect is_unread bytes (Syntax fault) Unread is also =
+      absurd (true≢false (sym also ∙ is.0))
+  one_file_fault one one_syntax apart dialect is_unread bytes (Lex fault) (Lex other) is also =
+      ap Lex (one_unlexed one dialect bytes fault other is.1 also.1)
+  one_file_fault one one_syntax apart dialect is_unread bytes (Lex fault) (Syntax other) is also =
+      absurd (apart dialect bytes fault other also.1 is.1)
+  one_file_fault one one_syntax apart dialect is_unread bytes (Syntax fault) (Lex other) is also =
+      absurd (apart dialect bytes other fault is.1 also.1)
+  one_file_fault one one_syntax apart dialect is_unread bytes (Syntax fault) (Syntax other) is also =
+      let first = is.1 in
+      let second = also.1 in
       let Here : Lexed → Type 0 = λ lexed. HasFault dialect lexed.text lexed.tokens other in
-      let same = same_lexing bytes is.lexed also.lexed is.lexing also.lexing in
-      ap Syntax (one_syntax dialect is.lexed.text is.lexed.tokens fault other is.has_fault
-      (subst Here (sym same) also.has_fault))
+      let same = same_lexing dialect bytes first.lexed second.lexed first.lexing second.lexing in
+      ap Syntax (one_syntax dialect first.lexed.text first.lexed.tokens fault other first.has_fault
+      (subst Here (sym same) second.has_fault))
 
   module _ (no_fault : NoFaultWhereItLexes) (no_syntax_fault : NoFaultWhereItDerives) where
     -- tokens of a file that derive a tree have no fault
@@ -163,26 +178,27 @@ module _ (one_tokens : OneTokens) (one_comments : OneComments) where
         → AreFactsIn dialect form number bytes facts → IsUnparsed dialect bytes fault → ⊥
     parsed_is_parsed dialect form number bytes facts fault has un =
         let Here : Lexed → Type 0 = λ lexed. HasFault dialect lexed.text lexed.tokens fault in
-        let same = same_lexing bytes has.lexed un.lexed has.lexing un.lexing in
+        let same = same_lexing dialect bytes has.lexed un.lexed has.lexing un.lexing in
         no_syntax_fault dialect has.lexed.text has.lexed.tokens has.tree fault has.derives
         (subst Here (sym same) un.has_fault)
 
     -- a file with a lexing isn't said to have none
-    lexed_is_lexed : (bytes : List ℕ) (lexed : Lexed) (fault : LexFault) → HasLexing bytes lexed → IsUnlexed bytes fault
-        → ⊥
-    lexed_is_lexed bytes lexed fault has (inl wrong) = text_is_text bytes fault has.text wrong
-    lexed_is_lexed bytes lexed fault has (inr first) =
-        let Of : List ℕ → Type 0 = λ text. Lexes text lexed.tokens lexed.comments in
-        no_fault bytes lexed.tokens lexed.comments fault (subst Of has.of_bytes has.is_lexed.lexes) first.1
+    lexed_is_lexed : (dialect : Dialect) (bytes : List ℕ) (lexed : Lexed) (fault : LexFault)
+        → HasLexing dialect bytes lexed → IsUnlexed dialect bytes fault → ⊥
+    lexed_is_lexed dialect bytes lexed fault has (inl wrong) = text_is_text bytes fault has.text wrong
+    lexed_is_lexed dialect bytes lexed fault has (inr first) =
+        no_fault (hashes_in dialect) bytes lexed.tokens lexed.comments fault has.lexes first.1
 
     pub no_facts_where_unreadable : NoFactsWhereUnreadable
+    no_facts_where_unreadable dialect form number bytes facts Unread has un = absurd (true≢false (sym un))
     no_facts_where_unreadable dialect form number bytes facts (Lex fault) has un =
-        lexed_is_lexed bytes has.lexed fault has.lexing un
+        lexed_is_lexed dialect bytes has.lexed fault has.lexing un.1
     no_facts_where_unreadable dialect form number bytes facts (Syntax fault) has un =
-        parsed_is_parsed dialect form number bytes facts fault has un
+        parsed_is_parsed dialect form number bytes facts fault has un.1
 
     pub lexed_where_unparsed : LexedWhereUnparsed
-    lexed_where_unparsed dialect bytes lexing parsing un = lexed_is_lexed bytes un.lexed lexing un.lexing
+    lexed_where_unparsed dialect bytes lexing parsing un =
+        lexed_is_lexed dialect bytes un.lexed lexing un.lexing
 
 module _ (no_facts : NoFactsWhereUnreadable) where
   -- no source before the first faulty one is faulty
@@ -190,7 +206,8 @@ module _ (no_facts : NoFactsWhereUnreadable) where
       → IsFirstFaulty dialect files number fault → IsFirstFaulty dialect files other another → number < other → ⊥
   not_before dialect files number other fault another first second less =
       let has = second.before number first.file less first.numbered first.faulty.source in
-      no_facts dialect has.0 number first.file.text has.1 fault has.2 first.faulty.unreadable
+      no_facts dialect has.0 number first.file.text has.1 fault has.2
+      (subst (λ flag. IsUnreadable dialect flag first.file.text fault) has.3 first.faulty.unreadable)
 
   pub one_first_faulty : OneFirstFaulty
   one_first_faulty dialect files number other fault another first second = elim (cases_order number other) [

@@ -1,6 +1,6 @@
 -- Files as they are linked.
 use Rattle.std.proofs.Common.{◌≡◌, ◌∙◌, ℕ, zero, suc, ◌<◌, List, [], ◌∷◌, length, map, Some, Result, Ok, Err}
-use Rattle.std.proofs.Common.{ap, sym, refl, arith}
+use Rattle.std.proofs.Common.{ap, sym, refl, arith, subst}
 use Rattle.std.specs.List.{slice_get}
 use Rattle.std.proofs.lemmas.Option.{slice_get_within, none-some, same_Some}
 use Rattle.basics.proofs.ListLemmas.{item_at}
@@ -15,6 +15,7 @@ use Rattle.source_tree.specs.Trees.{HaveOwnPaths}
 use Rattle.scip_build.specs.declared.faulty.Faulty.{Faulty}
 use Rattle.scip_build.specs.declared.fault.FileFault.{FileFault}
 use Rattle.scip_build.specs.Files.{FileContents, ReadFile}
+use Rattle.scip_build.specs.Parsed.{IsUnreadable}
 use Rattle.scip_build.specs.ParsedFiles.{HasContents, IsParsedFile, AreParsedFiles}
 use Rattle.scip_build.specs.Laws.{OneListOfFacts, NoFactsWhereUnreadable}
 use Rattle.scip_build.specs.Linking.{facts_in, linked_file, linked_files}
@@ -64,9 +65,11 @@ module _ (one : OneListOfFacts) (apart : NoFactsWhereUnreadable) (faulty other :
   same_facts number file (Ok a) (Ok b) has also =
       ap Some (one dialect form.facts number file.text a.facts b.facts has.1.facts_in also.1.facts_in)
   same_facts number file (Ok a) (Err f) has also =
-      absurd (apart dialect form.facts number file.text a.facts f has.1.facts_in also.1)
+      absurd (apart dialect form.facts number file.text a.facts f has.1.facts_in
+      (subst (λ flag. IsUnreadable dialect flag file.text f) has.3 also.1))
   same_facts number file (Err f) (Ok b) has also =
-      absurd (apart dialect form.facts number file.text b.facts f also.1.facts_in has.1)
+      absurd (apart dialect form.facts number file.text b.facts f also.1.facts_in
+      (subst (λ flag. IsUnreadable dialect flag file.text f) also.3 has.1))
   same_facts number file (Err f) (Err g) has also = refl
 
   same_linked : (number : ℕ) (file : TreeFile) (a b : ReadFile) → IsParsedFile faulty dialect form allows number file a

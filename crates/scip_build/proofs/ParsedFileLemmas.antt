@@ -17,6 +17,7 @@ use Rattle.scip_build.specs.declared.file_parsing.NoContents.{NoContents}
 use Rattle.scip_build.specs.declared.file_parsing.NoContents.TheVariants as lacking
 use Rattle.scip_build.specs.FileFaults.{fault_of_file}
 use Rattle.scip_build.specs.Laws.{NoFactsWhereUnreadable}
+use Rattle.scip_build.specs.Parsed.{IsUnreadable}
 use Rattle.source_tree.specs.Files.{TreeFile}
 use Rattle.scip_build.specs.Files.{FileContents, ReadFile}
 use Rattle.scip_build.specs.ParsedFiles.{may_be_unread, HasContents, IsParsedFile, AreParsedFiles, IsReadIfSource}
@@ -28,26 +29,33 @@ holds_at : {X : Type 0} (P : X → Type 0) (xs : List X) (k : ℕ) (x : X) → s
     → IfSome (slice_get xs k) P → P x
 holds_at {X} P xs k x at holds = let Q : Option X → Type 0 = λ o. IfSome o P in subst Q at holds
 
-same_file : (file : TreeFile) (path text : List ℕ) (is_included : Bool) → file.path ≡ path → file.text ≡ text
-    → file.is_included ≡ is_included
-    → file ≡ record { path = path; bytes = file.bytes; text = text; is_included = is_included }
-same_file file path text is_included paths texts flags =
-    λ i. record { path = paths i; bytes = file.bytes; text = texts i; is_included = flags i }
+same_file : (file : TreeFile) (path text : List ℕ) (is_included is_unread : Bool) → file.path ≡ path → file.text ≡ text
+    → file.is_included ≡ is_included → file.is_unread ≡ is_unread
+    → file ≡ record { path = path; bytes = file.bytes; text = text; is_included = is_included; is_unread = is_unread }
+same_file file path text is_included is_unread paths texts flags marks =
+    λ i. record { path = paths i; bytes = file.bytes; text = texts i; is_included = flags i; is_unread = marks i }
 
--- what holds of any file with this path, this text and this mark, holds of the file that has them
-pub given_at : (Holds : TreeFile → Type 0) (found : Option TreeFile) (path text : List ℕ) (is_included : Bool)
+-- what holds of any file with this path, this text and these marks, holds of the file that has them
+pub given_at : (Holds : TreeFile → Type 0) (found : Option TreeFile) (path text : List ℕ) (is_included is_unread : Bool)
     → option_map (λ (file : TreeFile). file.path) found ≡ Some path
     → option_map (λ (file : TreeFile). file.text) found ≡ Some text
     → option_map (λ (file : TreeFile). file.is_included) found ≡ Some is_included
-    → ((held : List ℕ)
-    → Holds (record { path = path; bytes = held; text = text; is_included = is_included }))
+    → option_map (λ (file : TreeFile). file.is_unread) found ≡ Some is_unread
+    → ((held : List ℕ) → Holds (record {
+      path = path;
+      bytes = held;
+      text = text;
+      is_included = is_included;
+      is_unread = is_unread;
+    }))
     → IfSome found Holds
-given_at Holds None path text is_included paths texts flags each = tt
-given_at Holds (Some file) path text is_included paths texts flags each =
+given_at Holds None path text is_included is_unread paths texts flags marks each = tt
+given_at Holds (Some file) path text is_included is_unread paths texts flags marks each =
     let path_is : file.path ≡ path = cc in
     let text_is : file.text ≡ text = cc in
     let flag_is : file.is_included ≡ is_included = cc in
-    subst Holds (sym (same_file file path text is_included path_is text_is flag_is)) (each file.bytes)
+    let mark_is : file.is_unread ≡ is_unread = cc in
+    subst Holds (sym (same_file file path text is_included is_unread path_is text_is flag_is mark_is)) (each file.bytes)
 
 -- a source that was read has facts, where it is refused else
 pub source_has_facts : (faulty : Faulty) → faulty ≡ Refuse
@@ -55,7 +63,7 @@ pub source_has_facts : (faulty : Faulty) → faulty ≡ Refuse
     (contents : Result FileContents FileFault)
     → HasContents faulty dialect form allows number file contents → IsReadIfSource dialect number file
 source_has_facts faulty refused dialect form allows number file (Ok contents) has source =
-    (form.facts, contents.facts, has.1.facts_in)
+    (form.facts, contents.facts, has.1.facts_in, has.3)
 source_has_facts faulty refused dialect form allows number file (Err fault) has source =
     let May : Faulty → Type 0 = λ f. may_be_unread f file.is_included ≡ true in
     absurd (true≢false (sym (subst May refused has.0) ∙ source))
@@ -108,4 +116,5 @@ module _ (faulty : Faulty) (dialect : Dialect) (form : ReadForm) (allows : Seen 
       let there = item_at parsed number within in
       let has = source_has_facts faulty refused dialect form allows number first.file there.0.contents
       (are.each number first.file there.0 first.numbered there.1).contents first.faulty.source in
-      no_facts dialect has.0 number first.file.text has.1 fault has.2 first.faulty.unreadable
+      no_facts dialect has.0 number first.file.text has.1 fault has.2
+      (subst (λ flag. IsUnreadable dialect flag first.file.text fault) has.3 first.faulty.unreadable)

@@ -52,7 +52,7 @@ module _ (one : OneListOfFacts) (one_beside : OneBesideAFile) (apart : NoFactsWh
 
   -- what is known beside the facts of an included file is known of a source
   as_included : (bytes : List ℕ) (beside : OptionFacts) → IsBesideIn bytes false beside
-      → IsBesideIn bytes true (record { options = []; fields = beside.fields })
+      → IsBesideIn bytes true (record { options = []; fields = beside.fields; messages = beside.messages })
   as_included bytes beside is = record {
     lexed = is.lexed;
     tree = is.tree;
@@ -61,11 +61,13 @@ module _ (one : OneListOfFacts) (one_beside : OneBesideAFile) (apart : NoFactsWh
     of_source = λ source. absurd (false≢true (sym source));
     of_included = λ included. refl;
     fields = is.fields;
+    messages = is.messages;
   }
 
-  -- fields are the same of both, and options if both are sources
+  -- fields and what messages say are the same of both, and options if both are sources
   pub record AreBesideAlike (source : Bool) (a b : OptionFacts) : Type 0 where
     pub fields : a.fields ≡ b.fields
+    pub messages : a.messages ≡ b.messages
     pub options : source ≡ false → a.options ≡ b.options
 
   same_beside : (bytes : List ℕ) (included other : Bool) → (included ≡ false → other ≡ false) → (a b : OptionFacts)
@@ -73,18 +75,22 @@ module _ (one : OneListOfFacts) (one_beside : OneBesideAFile) (apart : NoFactsWh
   same_beside bytes false false source a b is too =
       let same = one_beside bytes false a b is too in record {
         fields = ap (λ (f : OptionFacts). f.fields) same;
+        messages = ap (λ (f : OptionFacts). f.messages) same;
         options = λ of. ap (λ (f : OptionFacts). f.options) same;
       }
   same_beside bytes false true source a b is too = absurd (false≢true (sym (source refl)))
   same_beside bytes true true source a b is too =
       let same = one_beside bytes true a b is too in record {
         fields = ap (λ (f : OptionFacts). f.fields) same;
+        messages = ap (λ (f : OptionFacts). f.messages) same;
         options = λ of. absurd (false≢true (sym of));
       }
   same_beside bytes true false source a b is too =
-      let same = one_beside bytes true a (record { options = []; fields = b.fields }) is (as_included bytes b too) in
+      let same = one_beside bytes true a (record { options = []; fields = b.fields; messages = b.messages }) is
+      (as_included bytes b too) in
       record {
         fields = ap (λ (f : OptionFacts). f.fields) same;
+        messages = ap (λ (f : OptionFacts). f.messages) same;
         options = λ of. absurd (false≢true (sym of));
       }
 
@@ -96,6 +102,7 @@ module _ (one : OneListOfFacts) (one_beside : OneBesideAFile) (apart : NoFactsWh
       ap (λ o. unwrap_or o nothing_beside) (is ∙ sym too) in
       record {
         fields = ap (λ (f : OptionFacts). f.fields) same;
+        messages = ap (λ (f : OptionFacts). f.messages) same;
         options = λ of. ap (λ (f : OptionFacts). f.options) same;
       }
   same_beside_if true bytes included other source None b is too = absurd is
@@ -107,6 +114,7 @@ module _ (one : OneListOfFacts) (one_beside : OneBesideAFile) (apart : NoFactsWh
 
   module _ (dialect : Dialect) (form : ReadForm) (faulty another : Faulty) (allows others : Seen → Choice → Type 0)
       (number there : ℕ) (file other : TreeFile) (same_text : file.text ≡ other.text)
+      (same_mark : file.is_unread ≡ other.is_unread)
       (source : file.is_included ≡ false → other.is_included ≡ false) where
     pub record AreReadAlike (a b : Result FileContents FileFault) : Type 0 where
       pub facts : AreAlike (facts_in a) (facts_in b)
@@ -136,14 +144,16 @@ module _ (one : OneListOfFacts) (one_beside : OneBesideAFile) (apart : NoFactsWh
         }
     read_alike (Ok a) (Err fault) is too =
         absurd (apart dialect form.facts number file.text a.facts fault is.1.facts_in
-        (subst (λ bytes. IsUnreadable dialect bytes fault) (sym same_text) too.1))
+        (subst (λ bytes. IsUnreadable dialect false bytes fault) (sym same_text)
+        (subst (λ flag. IsUnreadable dialect flag other.text fault) (sym same_mark ∙ is.3) too.1)))
     read_alike (Err fault) (Ok b) is too =
         absurd (apart dialect form.facts there other.text b.facts fault too.1.facts_in
-        (subst (λ bytes. IsUnreadable dialect bytes fault) same_text is.1))
+        (subst (λ bytes. IsUnreadable dialect false bytes fault) same_text
+        (subst (λ flag. IsUnreadable dialect flag file.text fault) (same_mark ∙ too.3) is.1)))
     read_alike (Err fault) (Err more) is too = record {
       facts = tt;
       text = refl;
-      beside = record { fields = refl; options = λ of. refl };
+      beside = record { fields = refl; messages = refl; options = λ of. refl };
       choices = λ agree. refl;
       read = λ contents same. absurd (cc);
     }

@@ -222,6 +222,7 @@ module _ (one : OneListOfFacts) (one_beside : OneBesideAFile) (apart : NoFactsWh
         of_other = slice_get-map (λ (f : ReadFile). beside_in f.contents) is.all (to k)
             ∙ ap (option_map (λ (f : ReadFile). beside_in f.contents)) its.numbered;
         fields = its.alike.beside.fields;
+        messages = its.alike.beside.messages;
         options = λ source. its.alike.beside.options
             (sym its.is_own.is_included ∙ (ap (λ (f : File). f.is_included) from.2 ∙ source));
       }

@@ -94,18 +94,20 @@ module _ (one : OneListOfFacts) (one_beside : OneBesideAFile) (apart : NoFactsWh
       rw is.read.one_each (slice_get_within whole.tree has.listed.0 has.other stands) in
       let read = item_at is.all has.listed.0 within in
       let its = is.read.each has.listed.0 has.other read.0 stands read.1 in
-      let unreadable = subst (λ d. IsUnreadable d has.other.text cause) of.set.same.dialect
-      (subst (λ bytes. IsUnreadable settings.dialect bytes cause) has.text first.faulty.unreadable) in
+      let marked = subst (λ flag. IsUnreadable settings.dialect flag first.file.text cause) has.unread
+      first.faulty.unreadable in
+      let unreadable = subst (λ d. IsUnreadable d has.other.is_unread has.other.text cause) of.set.same.dialect
+      (subst (λ bytes. IsUnreadable settings.dialect has.other.is_unread bytes cause) has.text marked) in
       by has.listed.0 has.other read.0 read.1 (its.is_included ∙ has.source first.faulty.source) its.present
       unreadable read.0.contents refl its.contents
     where
       by : (k : ℕ) (file : TreeFile) (read : ReadFile) → slice_get is.all k ≡ Some read → read.is_included ≡ false
-          → read.is_left_out ≡ false → IsUnreadable whole.settings.dialect file.text cause
+          → read.is_left_out ≡ false → IsUnreadable whole.settings.dialect file.is_unread file.text cause
           → (contents : Result FileContents FileFault) → read.contents ≡ contents
           → HasContents whole.settings.faulty whole.settings.dialect (form_of whole.settings) allows k file contents → ⊥
       by k file read stands source present unreadable (Ok contents) same has =
           apart whole.settings.dialect (form_of whole.settings).facts k file.text contents.facts cause has.1.facts_in
-          unreadable
+          (subst (λ flag. IsUnreadable whole.settings.dialect flag file.text cause) has.3 unreadable)
       by k file read stands source present unreadable (Err other) same has =
           let numbered : slice_get (linked_files is.all) k ≡ Some (linked_file read) =
           slice_get-map linked_file is.all k ∙ ap (option_map linked_file) stands in

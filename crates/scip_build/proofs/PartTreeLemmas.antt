@@ -53,6 +53,7 @@ module _ (one : OneListOfFacts) (one_beside : OneBesideAFile) (apart : NoFactsWh
     pub numbered : slice_get whole.tree number ≡ Some other
     pub path : file.path ≡ other.path
     pub text : file.text ≡ other.text
+    pub unread : file.is_unread ≡ other.is_unread
     pub source : file.is_included ≡ false → other.is_included ≡ false
 
   pub tree_at : (k : ℕ) (file : TreeFile) → slice_get part.tree k ≡ Some file → IsTreeFile (at k) file
@@ -68,6 +69,7 @@ module _ (one : OneListOfFacts) (one_beside : OneBesideAFile) (apart : NoFactsWh
             numbered = at_contained whole.tree has.other has.listed;
             path = has.path;
             text = has.text;
+            unread = has.unread;
             source = has.source;
           })
 
@@ -92,7 +94,8 @@ module _ (one : OneListOfFacts) (one_beside : OneBesideAFile) (apart : NoFactsWh
         there.other other
     pub path : read.path ≡ other.path
     pub alike : AreReadAlike one one_beside apart whole.settings.dialect (form_of whole.settings) part.settings.faulty
-        whole.settings.faulty allows allows k (at k) file there.other there.text there.source read.contents
+        whole.settings.faulty allows allows k (at k) file there.other there.text there.unread there.source
+        read.contents
         other.contents
 
   pub read_there : (k : ℕ) (read : ReadFile) → slice_get own k ≡ Some read → IsReadThere k read
@@ -116,7 +119,8 @@ module _ (one : OneListOfFacts) (one_beside : OneBesideAFile) (apart : NoFactsWh
         is_other = is_other;
         path = is_own.path ∙ (there.path ∙ sym is_other.path);
         alike = read_alike one one_beside apart whole.settings.dialect (form_of whole.settings) part.settings.faulty
-            whole.settings.faulty allows allows k (at k) file.0 there.other there.text there.source read.contents
+            whole.settings.faulty allows allows k (at k) file.0 there.other there.text there.unread there.source
+            read.contents
             other.0.contents is_own.contents is_other.contents;
       }
 

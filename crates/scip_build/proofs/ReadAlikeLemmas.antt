@@ -1,6 +1,6 @@
 -- What is read of one tree twice is the same, whatever is chosen.
 use Rattle.std.proofs.Common.{◌≡◌, ◌∙◌, ℕ, ◌<◌, Bool, true, false, List, length, Option, Some, None, Result, Ok}
-use Rattle.std.proofs.Common.{Err, ap, sym, refl}
+use Rattle.std.proofs.Common.{Err, ap, sym, refl, subst}
 use Rattle.std.specs.List.{slice_get}
 use Rattle.std.specs.Option.{unwrap_or}
 use Rattle.std.proofs.lemmas.Option.{slice_get_within}
@@ -15,7 +15,7 @@ use Rattle.scip_build.specs.declared.read_form.ReadForm.{ReadForm}
 use Rattle.scip_build.specs.declared.faulty.Faulty.{Faulty}
 use Rattle.scip_build.specs.declared.fault.FileFault.{FileFault}
 use Rattle.scip_build.specs.Files.{FileContents, ReadFile}
-use Rattle.scip_build.specs.Parsed.{asks_options, IsBesideIf}
+use Rattle.scip_build.specs.Parsed.{asks_options, IsBesideIf, IsUnreadable}
 use Rattle.scip_build.specs.ParsedFiles.{AreContentsOf, HasContents, AreParsedFiles}
 use Rattle.scip_build.specs.Documents.{beside_in, known_in, text_in, text_of, texts_of}
 use Rattle.scip_build.specs.Laws.{NoFactsWhereUnreadable, OneBesideAFile}
@@ -34,17 +34,19 @@ module _ (apart : NoFactsWhereUnreadable) (allows others : Seen → Choice → T
     (dialect : Dialect) (form : ReadForm) where
   -- what is the same of contents, and of any two faults, is of one file read twice
   pub same_in : {Y : Type 0} (f : Result FileContents FileFault → Y) (number : ℕ) (file : TreeFile)
-      → ((a b : FileContents) → AreContentsOf dialect form file.is_included allows number file.text a
-      → AreContentsOf dialect form file.is_included others number file.text b → f (Ok a) ≡ f (Ok b))
+      → ((a b : FileContents) → AreContentsOf dialect form file.is_included file.is_unread allows number file.text a
+      → AreContentsOf dialect form file.is_included file.is_unread others number file.text b → f (Ok a) ≡ f (Ok b))
       → ((fault other : FileFault) → f (Err fault) ≡ f (Err other))
       → (a b : Result FileContents FileFault)
       → HasContents faulty dialect form allows number file a → HasContents another dialect form others number file b
       → f a ≡ f b
   same_in f number file read unread (Ok a) (Ok b) has also = read a b has also
   same_in f number file read unread (Ok a) (Err fault) has also =
-      absurd (apart dialect form.facts number file.text a.facts fault has.1.facts_in also.1)
+      absurd (apart dialect form.facts number file.text a.facts fault has.1.facts_in
+      (subst (λ flag. IsUnreadable dialect flag file.text fault) has.3 also.1))
   same_in f number file read unread (Err fault) (Ok b) has also =
-      absurd (apart dialect form.facts number file.text b.facts fault also.1.facts_in has.1)
+      absurd (apart dialect form.facts number file.text b.facts fault also.1.facts_in
+      (subst (λ flag. IsUnreadable dialect flag file.text fault) also.3 has.1))
   same_in f number file read unread (Err fault) (Err other) has also = unread fault other
 
   module _ (tree : List TreeFile) (parsed again : List ReadFile)

@@ -1,5 +1,5 @@
 -- What the definitions say about parsed files and faults, whatever the code does.
-use Rattle.std.specs.Prelude.{◌≡◌, ℕ, Bool, List}
+use Rattle.std.specs.Prelude.{◌≡◌, ℕ, Bool, false, List}
 use Rattle.proto_lex.specs.declared.fault.LexFault.{LexFault}
 use Rattle.proto_decl.specs.declared.form.FactForm.{FactForm}
 use Rattle.scip_build.specs.declared.read_form.ReadForm.{ReadForm}
@@ -31,21 +31,21 @@ abbrev pub OneBesideAFile : Type 0
 OneBesideAFile = (bytes : List ℕ) (is_included : Bool) (beside other : OptionFacts)
     → IsBesideIn bytes is_included beside → IsBesideIn bytes is_included other → beside ≡ other
 
--- and none if it can't be read,
+-- and none if its bytes say nothing,
 abbrev pub NoFactsWhereUnreadable : Type 0
 NoFactsWhereUnreadable =
     (dialect : Dialect) (form : FactForm) (number : ℕ) (bytes : List ℕ) (facts : Facts) (fault : FileFault)
-    → AreFactsIn dialect form number bytes facts → IsUnreadable dialect bytes fault → ⊥
+    → AreFactsIn dialect form number bytes facts → IsUnreadable dialect false bytes fault → ⊥
 
 -- which it can't be for one kind of fault.
 abbrev pub LexedWhereUnparsed : Type 0
 LexedWhereUnparsed = (dialect : Dialect) (bytes : List ℕ) (lexing : LexFault) (parsing : SyntaxFault)
-    → IsUnparsed dialect bytes parsing → IsUnlexed bytes lexing → ⊥
+    → IsUnparsed dialect bytes parsing → IsUnlexed dialect bytes lexing → ⊥
 
 -- It has one fault at most.
 abbrev pub OneFileFault : Type 0
-OneFileFault = (dialect : Dialect) (bytes : List ℕ) (fault other : FileFault) → IsUnreadable dialect bytes fault
-    → IsUnreadable dialect bytes other → fault ≡ other
+OneFileFault = (dialect : Dialect) (is_unread : Bool) (bytes : List ℕ) (fault other : FileFault)
+    → IsUnreadable dialect is_unread bytes fault → IsUnreadable dialect is_unread bytes other → fault ≡ other
 
 -- One of the sources that can't be read is the first.
 abbrev pub OneFirstFaulty : Type 0

@@ -42,12 +42,13 @@ pub record IsReadAs (dialect : Dialect) (form : FactForm) (allows : Seen → Cho
   pub facts_in : AreFactsIn dialect form number bytes facts
   pub chosen : AreChosen allows facts.declarations choices
 
--- the contents of the file with this number and these bytes
-abbrev pub AreContentsOf : Dialect → ReadForm → (is_included : Bool) → (allows : Seen → Choice → Type 0)
+-- the contents of the file with this number, if it could be read, and these bytes
+abbrev pub AreContentsOf : Dialect → ReadForm → (is_included is_unread : Bool) → (allows : Seen → Choice → Type 0)
     → (number : ℕ) → (bytes : List ℕ) → FileContents → Type 0
-AreContentsOf dialect form is_included allows number bytes contents =
+AreContentsOf dialect form is_included is_unread allows number bytes contents =
     (contents.text ≡ bytes) × IsReadAs dialect form.facts allows number bytes contents.facts contents.choices
     × IsBesideIf (asks_options dialect form.options) bytes is_included contents.beside
+    × (is_unread ≡ false)
 
 -- a file may be without contents if it is included, and any may if it isn't refused for it
 abbrev pub may_be_unread : Faulty → (is_included : Bool) → Bool
@@ -58,9 +59,9 @@ may_be_unread Skip is_included = true
 abbrev pub HasContents : Faulty → Dialect → ReadForm → (allows : Seen → Choice → Type 0) → (number : ℕ) → TreeFile
     → Result FileContents FileFault → Type 0
 HasContents faulty dialect form allows number file (Ok contents) =
-    AreContentsOf dialect form file.is_included allows number file.text contents
+    AreContentsOf dialect form file.is_included file.is_unread allows number file.text contents
 HasContents faulty dialect form allows number file (Err fault) =
-    (may_be_unread faulty file.is_included ≡ true) × IsUnreadable dialect file.text fault
+    (may_be_unread faulty file.is_included ≡ true) × IsUnreadable dialect file.is_unread file.text fault
 
 -- a file after it was read
 pub record IsParsedFile (faulty : Faulty) (dialect : Dialect) (form : ReadForm) (allows : Seen → Choice → Type 0)
@@ -82,12 +83,12 @@ pub record AreParsedFiles (faulty : Faulty) (dialect : Dialect) (form : ReadForm
 -- a source, which can't be read
 pub record IsFaultySource (dialect : Dialect) (file : TreeFile) (fault : FileFault) : Type 0 where
   pub source : file.is_included ≡ false
-  pub unreadable : IsUnreadable dialect file.text fault
+  pub unreadable : IsUnreadable dialect file.is_unread file.text fault
 
--- the file has facts, if it is a source, in some form
+-- the file could be read and has facts, if it is a source, in some form
 abbrev pub IsReadIfSource : Dialect → ℕ → TreeFile → Type 0
 IsReadIfSource dialect number file = file.is_included ≡ false
-    → (form : FactForm) × (facts : Facts) × AreFactsIn dialect form number file.text facts
+    → (form : FactForm) × (facts : Facts) × AreFactsIn dialect form number file.text facts × (file.is_unread ≡ false)
 
 -- the file with this number is the first source that can't be read
 pub record IsFirstFaulty (dialect : Dialect) (files : List TreeFile) (number : ℕ)

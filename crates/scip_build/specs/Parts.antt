@@ -41,6 +41,7 @@ pub record HasFile (tree : List TreeFile) (file : TreeFile) : Type 0 where
   pub listed : Contains tree other
   pub path : file.path ≡ other.path
   pub text : file.text ≡ other.text
+  pub unread : file.is_unread ≡ other.is_unread
   pub source : file.is_included ≡ false → other.is_included ≡ false
 
 -- The tree has all files that its sources reach in the whole, of which this was read.

@@ -6,11 +6,15 @@ use proto_parse::SyntaxFault;
 use std::alloc::AllocError;
 use thiserror::Error;
 
-/// Why a file can't be read. `Lex` comes before `Syntax`: a file is lexed whole before it is parsed.
+/// Why a file can't be read. `Unread` is a file that its tree has without what it holds. `Lex` comes before `Syntax`: a
+/// file is lexed whole before it is parsed.
 ///
-/// Neither holds its `Memory`: lack of memory is no fault of a file.
+/// None holds its `Memory`: lack of memory is no fault of a file.
 #[derive(Clone, Copy, Debug, Drop, PartialEq, Eq, Error)]
 pub enum FileFault {
+    /// Nothing is known of what it holds, since it couldn't be read when its tree was made.
+    #[error("it can't be read")]
+    Unread,
     /// Its bytes are no text, or the text has no lexing.
     #[error(transparent)]
     Lex(LexFault),

@@ -1,6 +1,6 @@
 //! From the bytes of a file to its contents.
 
-ghost use Rattle.std.specs.Prelude.{◌≡◌, ◌<◌, ℕ, true, List, length, IfErr, IfOk, MatchResult};
+ghost use Rattle.std.specs.Prelude.{◌≡◌, ◌<◌, ℕ, false, true, List, length, IfErr, IfOk, MatchResult};
 ghost use Rattle.proto_lex.specs.Text.{IsText};
 ghost use Rattle.scip_build.specs.FileFaults.{fault_of_lexing, fault_of_parsing, MayRefuseFile};
 ghost use Rattle.proto_parse.specs.dialect.Dialect.TheVariants.{All};
@@ -20,7 +20,7 @@ use crate::read_form::ReadForm;
 use index_hooks::Chooses;
 use option_link::OptionFacts;
 use proto_decl::{FactForm, FileFacts, declare_with};
-use proto_lex::{LexFault, Text, Tokens, lex};
+use proto_lex::{LexFault, Text, Tokens, lex_with};
 use proto_parse::{Dialect, File, SyntaxFault, parse_with};
 use source_tree::Tree;
 use std::alloc::{AllocError, Global};
@@ -108,7 +108,7 @@ fn beside_if_asked(
     requires derives { asked ≡ true → Derives All lexed.now.text lexed.now.tokens tree.now }
     requires packaged { facts.now.package_name
         ≡ components_at lexed.now.text (package_spans tree.now.package_name) }
-    ensures given { IfOk result (λ beside. (bytes : List ℕ) → HasLexing bytes lexed.now
+    ensures given { IfOk result (λ beside. (bytes : List ℕ) → (asked ≡ true → HasLexing All bytes lexed.now)
         → IsBesideIf asked bytes is_included beside) }
     ensures refused { IfErr result (λ fault. fault ≡ Memory) }
 {
@@ -121,6 +121,7 @@ fn beside_if_asked(
 
 /// The facts of a text: it is lexed whole, then parsed, then declared. Then its options are read, if they are asked
 /// for.
+#[tactic(auto, using(crate::proofs::OptionReadingLemmas::beside_from))]
 fn facts_of<'a>(
     alloc: Global,
     number: usize,
@@ -133,9 +134,9 @@ fn facts_of<'a>(
     ensures { MatchResult result
         (λ known. AreFactsIn dialect form.facts number text.now known.facts
         × IsBesideIf (asks_options dialect form.options) text.now is_included known.beside)
-        (MayRefuseFile dialect text.now) }
+        (MayRefuseFile dialect false text.now) }
 {
-    let lexed = match lex(alloc, text) {
+    let lexed = match lex_with(alloc, text, dialect.hashes()) {
         Ok(lexed) => lexed,
         Err(fault) => return Err(unlexed(fault)),
     };
@@ -157,9 +158,9 @@ fn contents_of<'a, C: Chooses>(
     is_included: bool,
 ) -> Result<Contents<'a>, NoContents>
     ensures { MatchResult result
-        (AreContentsOf reader.now.dialect reader.now.form is_included (C.allows reader.now.chooser.now) number
+        (AreContentsOf reader.now.dialect reader.now.form is_included false (C.allows reader.now.chooser.now) number
         bytes.now)
-        (MayRefuseFile reader.now.dialect bytes.now) }
+        (MayRefuseFile reader.now.dialect false bytes.now) }
 {
     let text = match Text::new(reader.alloc, bytes) {
         Ok(text) => text,
@@ -182,6 +183,25 @@ fn contents_of<'a, C: Chooses>(
     })
 }
 
+/// The contents of the file with this number, of which these bytes are read, unless it couldn't be read.
+fn contents_unless_unread<'a, C: Chooses>(
+    reader: &Reader<'_, C>,
+    number: usize,
+    bytes: &'a [u8],
+    is_included: bool,
+    is_unread: bool,
+) -> Result<Contents<'a>, NoContents>
+    ensures { MatchResult result
+        (AreContentsOf reader.now.dialect reader.now.form is_included is_unread (C.allows reader.now.chooser.now)
+        number bytes.now)
+        (MayRefuseFile reader.now.dialect is_unread bytes.now) }
+{
+    if is_unread {
+        return Err(NoContents::Unreadable(FileFault::Unread));
+    }
+    contents_of(reader, number, bytes, is_included)
+}
+
 /// Reads the file with this number, which has this path, and of which these bytes are read. A file that can't be read,
 /// and isn't refused for it, has its fault in place of contents.
 fn read_parts<'a, C: Chooses>(
@@ -190,15 +210,16 @@ fn read_parts<'a, C: Chooses>(
     path: &'a str,
     bytes: &'a [u8],
     is_included: bool,
+    is_unread: bool,
 ) -> Result<ParsedFile<'a>, NoContents>
-    ensures { (held : List ℕ) → MatchResult result
+    ensures { (all : List ℕ) → MatchResult result
         (IsParsedFile reader.now.faulty reader.now.dialect reader.now.form (C.allows reader.now.chooser.now) number
-        (record { path = path.now; bytes = held; text = bytes.now; is_included = is_included }))
+        (record { path = path.now; bytes = all; text = bytes.now; is_included = is_included; is_unread = is_unread }))
         (MayRefuseParsing reader.now.faulty reader.now.dialect
-        (record { path = path.now; bytes = held; text = bytes.now; is_included = is_included })) }
+        (record { path = path.now; bytes = all; text = bytes.now; is_included = is_included; is_unread = is_unread })) }
 {
     let links_options = asks_options(reader.dialect, reader.form.options);
-    match contents_of(reader, number, bytes, is_included) {
+    match contents_unless_unread(reader, number, bytes, is_included, is_unread) {
         Ok(contents) => Ok(ParsedFile {
             path,
             is_included,
@@ -239,5 +260,6 @@ pub(crate) fn read_file<'a, C: Chooses>(
         tree.path(number),
         tree.text(number),
         tree.is_included(number),
+        tree.is_unread(number),
     )
 }

@@ -6,6 +6,7 @@ ghost use Rattle.proto_parse.specs.Derives.{Derives};
 ghost use Rattle.proto_decl.specs.Declares.{package_spans};
 ghost use Rattle.proto_decl.specs.Names.{components_at, dotted};
 ghost use Rattle.proto_options.specs.Fields.{fields_in};
+ghost use Rattle.proto_options.specs.Messages.{messages_in};
 ghost use Rattle.proto_options.specs.Options.{AreOptionsOf};
 ghost use Rattle.scip_build.specs.Parsed.{asks_options};
 ghost use Rattle.scip_build.specs.declared.file_parsing.NoContents.TheVariants.{Memory};
@@ -15,7 +16,7 @@ use basics::{OwnedText, Sequence};
 use option_link::OptionFacts;
 use proto_decl::{Component, FileFacts};
 use proto_lex::Tokens;
-use proto_options::{FileOption, fields_of, options_of};
+use proto_options::{FileOption, fields_of, messages_of, options_of};
 use proto_parse::{Dialect, File};
 use std::alloc::{AllocError, Global};
 
@@ -81,7 +82,8 @@ fn options_if_source(
     }
 }
 
-/// What is known of a file beside its facts: its options, and what its fields are of. `Memory` is the only fault.
+/// What is known of a file beside its facts: its options, what its fields are of, and what its messages say of names.
+/// `Memory` is the only fault.
 pub(crate) fn beside_of(
     alloc: Global,
     lexed: &Tokens<'_, '_>,
@@ -96,9 +98,15 @@ pub(crate) fn beside_of(
         → AreOptionsOf All lexed.now tree.now beside.options) }
     ensures of_included { IfOk result (λ beside. is_included ≡ true → beside.options ≡ []) }
     ensures fields { IfOk result (λ beside. beside.fields ≡ fields_in tree.now) }
+    ensures messages { IfOk result (λ beside. beside.messages ≡ messages_in lexed.now tree.now) }
     ensures refused { IfErr result (λ fault. fault ≡ Memory) }
 {
     let options = options_if_source(alloc, lexed, tree, facts, is_included)?;
     let fields = fields_of(alloc, tree)?;
-    Ok(OptionFacts { options, fields })
+    let messages = messages_of(alloc, lexed, tree)?;
+    Ok(OptionFacts {
+        options,
+        fields,
+        messages,
+    })
 }

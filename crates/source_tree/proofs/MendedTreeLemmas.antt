@@ -65,10 +65,14 @@ mended_by [] [] [] are = tt
 mended_by (o ∷ old) [] [] are = tt
 mended_by old (t ∷ texts) [] are = absurd are
 mended_by old [] (f ∷ files) are = absurd are
-mended_by [] (t ∷ texts) (f ∷ files) are =
-    (record { path = refl; bytes = refl; text = are.0; is_included = refl }, mended_by [] texts files are.1)
-mended_by (o ∷ old) (t ∷ texts) (f ∷ files) are =
-    (record { path = refl; bytes = refl; text = are.0; is_included = refl }, mended_by old texts files are.1)
+mended_by [] (t ∷ texts) (f ∷ files) are = (
+  record { path = refl; bytes = refl; text = are.0; is_included = refl; is_unread = refl },
+  mended_by [] texts files are.1,
+)
+mended_by (o ∷ old) (t ∷ texts) (f ∷ files) are = (
+  record { path = refl; bytes = refl; text = are.0; is_included = refl; is_unread = refl },
+  mended_by old texts files are.1,
+)
 
 mended_files : (old texts : List (Option (List ℕ))) (sources included : List SourceFile)
     → AreTexts (sources ++ included) texts

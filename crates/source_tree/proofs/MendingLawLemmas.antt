@@ -18,7 +18,10 @@ use Rattle.proto_lex.specs.Literals.{is_plain, is_escape_letter, IsEscape, lette
 use Rattle.proto_lex.specs.Literals.{three_octal, short_unicode, long_unicode, last_unicode}
 use Rattle.proto_lex.specs.Literals.{EndsLiteral, close, character, escape}
 use Rattle.proto_lex.specs.Lexes.{sign_kind, Spells, identifier, integer, float, literal, sign, part}
-use Rattle.proto_lex.specs.Lexes.{LexesFrom, at_end, blank, comment, token, Lexes, unmarked, marked}
+use Rattle.proto_lex.specs.Hashes.{Where}
+use Rattle.proto_lex.specs.Lexes.{LexesFrom, at_end, blank, comment, token, odd, LexesWith, unmarked, marked}
+use Rattle.proto_lex.specs.declared.hashes.Hashes.{Hashes}
+use Rattle.proto_lex.proofs.HashLemmas.{odd_high}
 use Rattle.proto_lex.specs.declared.token.Token.{Token}
 use Rattle.proto_lex.specs.declared.token.TokenKind.{TokenKind}
 use Rattle.proto_lex.specs.declared.token.Comment.{Comment}
@@ -210,8 +213,8 @@ one_comment_more first comments at is = record {
   before_end = is.before_end;
 }
 
-nul_in : {place : ℕ} {bytes : List ℕ} {tokens : List Token} {comments : List Comment}
-    → LexesFrom place bytes tokens comments → (at : ℕ) → slice_get bytes at ≡ Some 0
+nul_in : {state : Where} {place : ℕ} {bytes : List ℕ} {tokens : List Token} {comments : List Comment}
+    → LexesFrom state place bytes tokens comments → (at : ℕ) → slice_get bytes at ≡ Some 0
     → IsInComment comments (place + at)
 nul_in at_end at is = absurd cc
 nul_in (blank {at = place} {b} {rest} {tokens} {comments} blank_b lexes) zero is =
@@ -230,6 +233,10 @@ nul_in (comment {at = place} {k} {word} {rest} {tokens} {comments} is_comment le
           (subst (IsInComment comments) (omega (arith, past))
           (nul_in lexes (at - length word) (sym (behind_front word rest at past) ∙ is)))
     ]
+nul_in (odd {place = state} {at = place} {b} {rest} {tokens} {comments} odd_b lexes) zero is =
+    let zero_is : b ≡ 0 = cc in absurd (false≢true (sym (odd_high state b odd_b) ∙ ap (λ n. nat_eq n 0) zero_is))
+nul_in (odd {at = place} {b} {rest} {tokens} {comments} odd_b lexes) (suc at) is =
+    subst (IsInComment comments) (omega arith) (nul_in lexes at is)
 nul_in (token {at = place} {k} {word} {rest} {tokens} {comments} is_token lexes) at is =
     elim (cases_lt at (length word)) [
       | inl less ↦ absurd
@@ -238,7 +245,8 @@ nul_in (token {at = place} {k} {word} {rest} {tokens} {comments} is_token lexes)
           (nul_in lexes (at - length word) (sym (behind_front word rest at past) ∙ is))
     ]
 
-nul_in_text : {text : List ℕ} {tokens : List Token} {comments : List Comment} → Lexes text tokens comments
+nul_in_text : {hashes : Hashes} {text : List ℕ} {tokens : List Token} {comments : List Comment}
+    → LexesWith hashes text tokens comments
     → (at : ℕ) → slice_get text at ≡ Some 0 → IsInComment comments at
 nul_in_text (unmarked {text} {tokens} {comments} lexes) at is =
     subst (IsInComment comments) (omega arith) (nul_in lexes at is)
@@ -303,11 +311,11 @@ no_text (ill_formed {byte} {bytes} {text} none reads) (suc at) other utf8 =
     (IsUtf8-past_char (0 ∷ (take at text ++ drop at bytes)) (take at text ++ drop at bytes) 0 utf8 refl)
 
 pub others_in_comments : OtherBytesAreInComments
-others_in_comments bytes text tokens comments (in_comments short reads same) utf8 lexes at other =
+others_in_comments hashes bytes text tokens comments (in_comments short reads same) utf8 lexes at other =
     nul_in_text lexes at (other_is_nul reads at other)
-others_in_comments bytes text tokens comments (outside read place short reads first differs) utf8 lexes at other =
+others_in_comments hashes bytes text tokens comments (outside read place short reads first differs) utf8 lexes at other =
     absurd (no_text reads place differs utf8)
-others_in_comments bytes text tokens comments (too_long long) utf8 lexes at other = absurd (other refl)
+others_in_comments hashes bytes text tokens comments (too_long long) utf8 lexes at other = absurd (other refl)
 
 -- ---- bytes that are UTF-8
 

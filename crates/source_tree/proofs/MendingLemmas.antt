@@ -10,7 +10,8 @@ use Rattle.std.proofs.lemmas.Str.{IsUtf8-append, IsUtf8-encode, length-encode, l
 use lib.Utf8.{scalar, scalars, encode, encodes}
 use Rattle.proto_lex.specs.Text.{max_text_length}
 use Rattle.proto_lex.specs.LexLaws.{OneFirstFault}
-use Rattle.proto_lex.specs.Faults.{IsFirstFault}
+use Rattle.proto_lex.specs.Faults.{IsFirstFaultWith}
+use Rattle.proto_lex.specs.declared.hashes.Hashes.TheVariants.{InValues}
 use Rattle.proto_lex.specs.declared.fault.LexFault.{LexFault}
 use Rattle.proto_lex.specs.declared.fault.LexFault.TheVariants.{TooLong, NotUtf8, BadByte, OpenString, OpenComment}
 use Rattle.proto_lex.specs.declared.fault.LexFault.TheVariants.{BadEscape, BadNumber, Memory}
@@ -114,17 +115,17 @@ reads_all bytes text rest none before =
 -- ---- where the lexer meets a byte that it can't take
 
 none_is : OneFirstFault → (text : List ℕ) (fault : LexFault) → (fault ≡ Memory → ⊥)
-    → ((n : ℕ) → fault ≡ BadByte n → ⊥) → (fault ≡ Memory) ⊎ IsFirstFault text fault → IsFirstBadByte text None
+    → ((n : ℕ) → fault ≡ BadByte n → ⊥) → (fault ≡ Memory) ⊎ IsFirstFaultWith InValues text fault → IsFirstBadByte text None
 none_is one text fault no_memory no_byte (inl memory) n first = no_memory memory
-none_is one text fault no_memory no_byte (inr is) n first = no_byte n (one text fault (BadByte n) is first)
+none_is one text fault no_memory no_byte (inr is) n first = no_byte n (one InValues text fault (BadByte n) is first)
 
-some_is : (text : List ℕ) (n : ℕ) → (BadByte n ≡ Memory) ⊎ IsFirstFault text (BadByte n)
+some_is : (text : List ℕ) (n : ℕ) → (BadByte n ≡ Memory) ⊎ IsFirstFaultWith InValues text (BadByte n)
     → IsFirstBadByte text (Some n)
 some_is text n (inl memory) = absurd cc
 some_is text n (inr first) = first
 
 pub first_is : OneFirstFault → (text : List ℕ) (fault : LexFault) (at : Option ℕ) → bad_byte fault ≡ Some at
-    → (fault ≡ Memory) ⊎ IsFirstFault text fault → IsFirstBadByte text at
+    → (fault ≡ Memory) ⊎ IsFirstFaultWith InValues text fault → IsFirstBadByte text at
 first_is one text Memory at e is = absurd cc
 first_is one text (BadByte n) at e is =
     let same : Some n ≡ at = cc in subst (IsFirstBadByte text) same (some_is text n is)
@@ -160,7 +161,7 @@ pub mended_at_same : OneFirstFault → (bytes text : List ℕ) (at : ℕ) → le
     → Reads bytes text → IsFirstBadByte text (Some at) → SameAt bytes text at → IsMended bytes text
 mended_at_same one bytes text at short read first same =
     in_comments short read
-    (λ n other. subst (SameAt bytes text) (same_place at n (one text (BadByte at) (BadByte n) first other)) same)
+    (λ n other. subst (SameAt bytes text) (same_place at n (one InValues text (BadByte at) (BadByte n) first other)) same)
 
 pub mended_at_other : (bytes text whole : List ℕ) (at : ℕ) → length bytes ≤ max_text_length → Reads bytes text
     → IsFirstBadByte text (Some at) → (SameAt bytes text at → ⊥) → whole ≡ take at text ++ drop at bytes

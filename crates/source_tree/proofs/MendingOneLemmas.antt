@@ -5,7 +5,8 @@ use Rattle.std.specs.Char.{encode_utf8}
 use Rattle.std.proofs.lemmas.List.{length-take}
 use Rattle.std.proofs.lemmas.Str.{encode_same, length-encode, len_utf8_bounds}
 use Rattle.proto_lex.specs.LexLaws.{OneFirstFault}
-use Rattle.proto_lex.specs.Faults.{IsFirstFault}
+use Rattle.proto_lex.specs.Faults.{IsFirstFaultWith}
+use Rattle.proto_lex.specs.declared.hashes.Hashes.TheVariants.{InValues}
 use Rattle.proto_lex.specs.declared.fault.LexFault.TheVariants.{BadByte}
 use Rattle.source_tree.specs.Mending.{Reads, at_end, well_formed, ill_formed, SameAt}
 use Rattle.source_tree.specs.Mending.{in_comments, outside, too_long}
@@ -49,17 +50,17 @@ one_reading one bytes text other (in_comments short reads same) (in_comments als
 one_reading one bytes text other (in_comments short reads same) (outside read at also more first differs) =
     let is = one_read reads more refl in
     absurd (differs (subst (λ (t : List ℕ). SameAt bytes t at) is
-    (same at (subst (λ (t : List ℕ). IsFirstFault t (BadByte at)) (sym is) first))))
+    (same at (subst (λ (t : List ℕ). IsFirstFaultWith InValues t (BadByte at)) (sym is) first))))
 one_reading one bytes text other (in_comments short reads same) (too_long long) = absurd (omega (arith, short, long))
 one_reading one bytes text other (outside read at short reads first differs) (in_comments also more alike) =
     let is = one_read reads more refl in
     absurd (differs (subst (λ (t : List ℕ). SameAt bytes t at) (sym is)
-    (alike at (subst (λ (t : List ℕ). IsFirstFault t (BadByte at)) is first))))
+    (alike at (subst (λ (t : List ℕ). IsFirstFaultWith InValues t (BadByte at)) is first))))
 one_reading one bytes text other (outside read at short reads first differs)
     (outside another place also more fault unlike) =
     let is = one_read reads more refl in
     let here : at ≡ place = same_place at place
-    (one another (BadByte at) (BadByte place) (subst (λ (t : List ℕ). IsFirstFault t (BadByte at)) is first) fault) in
+    (one InValues another (BadByte at) (BadByte place) (subst (λ (t : List ℕ). IsFirstFaultWith InValues t (BadByte at)) is first) fault) in
     ap (λ t. take at t ++ drop at bytes) is ∙ ap (λ n. take n another ++ drop n bytes) here
 one_reading one bytes text other (outside read at short reads first differs) (too_long long) =
     absurd (omega (arith, short, long))

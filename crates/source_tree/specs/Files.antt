@@ -5,10 +5,12 @@ use Rattle.std.specs.Ordering.{nat_cmp, bool_cmp, ordering_then}
 use Rattle.std.specs.Cmp.Lexicographic.{slice_cmp}
 use Rattle.std.specs.List.Sorted.{IsSorted, IsStable}
 
--- a file that is handed in: its path below its root, and its bytes
+-- a file that is handed in: its path below its root, its bytes, and whether it couldn't be read, so that what it holds
+-- isn't known
 pub record SourceFile : Type 0 where
   pub path : List ℕ
   pub bytes : List ℕ
+  pub is_unread : Bool
 
 -- a file of a tree: the same, what is read of its bytes, and whether it is included; a file that isn't included is a
 -- source
@@ -17,11 +19,18 @@ pub record TreeFile : Type 0 where
   pub bytes : List ℕ
   pub text : List ℕ
   pub is_included : Bool
+  pub is_unread : Bool
 
 -- of a file that is handed in, its bytes are read as they are
 abbrev pub in_tree : Bool → SourceFile → TreeFile
 in_tree included file =
-    record { path = file.path; bytes = file.bytes; text = file.bytes; is_included = included }
+    record {
+      path = file.path;
+      bytes = file.bytes;
+      text = file.bytes;
+      is_included = included;
+      is_unread = file.is_unread;
+    }
 
 abbrev pub paths_of : List SourceFile → List (List ℕ)
 paths_of files = map (λ file. file.path) files

@@ -4,7 +4,8 @@ use Rattle.std.specs.List.{list_any, AllZip}
 use Rattle.std.specs.Str.{bytes_eq}
 use Rattle.std.specs.HashSet.{HashSet, contains_by}
 use denote.Ref.{Bor}
-use Rattle.proto_lex.specs.Faults.{IsFirstFault}
+use Rattle.proto_lex.specs.Faults.{IsFirstFaultWith}
+use Rattle.proto_lex.specs.declared.hashes.Hashes.TheVariants.{InValues}
 use Rattle.proto_lex.specs.declared.fault.LexFault.{LexFault}
 use Rattle.proto_lex.specs.declared.fault.LexFault.TheVariants.{BadByte, Memory}
 use Rattle.source_tree.specs.Files.{SourceFile, TreeFile, in_tree}
@@ -41,8 +42,8 @@ bad_byte _ = Some None
 
 -- where the lexer, on its way, meets such a byte
 abbrev pub IsFirstBadByte : List ℕ → Option ℕ → Type 0
-IsFirstBadByte text None = (at : ℕ) → IsFirstFault text (BadByte at) → ⊥
-IsFirstBadByte text (Some at) = IsFirstFault text (BadByte at)
+IsFirstBadByte text None = (at : ℕ) → IsFirstFaultWith InValues text (BadByte at) → ⊥
+IsFirstBadByte text (Some at) = IsFirstFaultWith InValues text (BadByte at)
 
 -- what is read of bytes up to those that are left is added to what was read before
 abbrev pub ReadsOn : (old new bytes left : List ℕ) → Type 0

@@ -1,6 +1,7 @@
 -- What the definition of what is read of bytes says.
 use Rattle.std.specs.Prelude.{◌≡◌, ℕ, ◌<◌, ◌≤◌, List, Contains, IsUtf8, length}
-use Rattle.proto_lex.specs.Lexes.{Lexes}
+use Rattle.proto_lex.specs.Lexes.{LexesWith}
+use Rattle.proto_lex.specs.declared.hashes.Hashes.{Hashes}
 use Rattle.proto_lex.specs.declared.token.Token.{Token}
 use Rattle.proto_lex.specs.declared.token.Comment.{Comment}
 use Rattle.source_tree.specs.Mending.{SameAt, IsMended}
@@ -15,8 +16,8 @@ pub record IsInComment (comments : List Comment) (at : ℕ) : Type 0 where
 -- If what is read of bytes is UTF-8 and lexes, another byte than there is is read in comments alone.
 abbrev pub OtherBytesAreInComments : Type 0
 OtherBytesAreInComments =
-    (bytes text : List ℕ) (tokens : List Token) (comments : List Comment)
-    → IsMended bytes text → IsUtf8 text → Lexes text tokens comments
+    (hashes : Hashes) (bytes text : List ℕ) (tokens : List Token) (comments : List Comment)
+    → IsMended bytes text → IsUtf8 text → LexesWith hashes text tokens comments
     → (at : ℕ) → (SameAt bytes text at → ⊥) → IsInComment comments at
 
 -- Of bytes that are UTF-8 just these are read.

@@ -6,7 +6,7 @@ ghost use Rattle.source_tree.specs.Mending.{Reads, SameAt, IsMended};
 ghost use Rattle.source_tree.specs.Marks.{text_or, bad_byte, IsFirstBadByte, ReadsOn};
 
 use basics::Sequence;
-use proto_lex::{LexFault, MAX_TEXT_LENGTH, Text, lex, one_first_fault};
+use proto_lex::{Hashes, LexFault, MAX_TEXT_LENGTH, Text, lex_with, one_first_fault};
 use std::alloc::{AllocError, Global};
 
 /// What stands for a byte that isn't part of a well-formed sequence: the lexer takes it in comments alone.
@@ -74,7 +74,7 @@ fn first_bad_byte(alloc: Global, read: &[u8]) -> Result<Option<usize>, AllocErro
         Ok(text) => text,
         Err(_) => return Err(AllocError),
     };
-    match lex(alloc, &text) {
+    match lex_with(alloc, &text, Hashes::InValues) {
         Ok(_) => Ok(None),
         Err(fault) => bad_byte(fault),
     }

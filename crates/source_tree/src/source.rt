@@ -8,9 +8,9 @@ use crate::path::is_good_path;
 use std::cmp::Ordering;
 use std::marker::Model;
 
-/// A file: its path below its root, with `/` between components, and its bytes.
+/// A file: its path below its root, with `/` between components, its bytes, and whether it couldn't be read.
 ///
-/// Contracts see the bytes of its path, and its bytes.
+/// Contracts see the bytes of its path, its bytes, and that mark.
 #[derive(Debug, Drop)]
 pub struct Source {
     /// Its path below its root.
@@ -20,6 +20,8 @@ pub struct Source {
     pub path: String,
     /// What the file holds: any bytes.
     pub bytes: Vec<u8>,
+    /// Whether it couldn't be read: then nothing is known of what it holds, and its bytes are none.
+    pub is_unread: bool,
 }
 
 impl Model for Source {
@@ -28,7 +30,11 @@ impl Model for Source {
 
     ghost Value = { SourceFile };
 
-    ghost view = { λ source. record { path = string_bytes source.path; bytes = source.bytes.items } };
+    ghost view = { λ source. record {
+      path = string_bytes source.path;
+      bytes = source.bytes.items;
+      is_unread = source.is_unread;
+    } };
 }
 
 impl Source {
@@ -44,6 +50,13 @@ impl Source {
         ensures { result.now ≡ self.now.bytes }
     {
         self.bytes.as_slice()
+    }
+
+    /// Whether it couldn't be read.
+    pub(crate) fn is_unread(&self) -> bool
+        ensures { result ≡ self.now.is_unread }
+    {
+        self.is_unread
     }
 
     /// Whether its path is a good one.

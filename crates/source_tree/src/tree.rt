@@ -201,11 +201,20 @@ impl Tree {
         number >= self.sources.len()
     }
 
+    /// Whether the file with a number, which has to be below `file_count`, couldn't be read. It stands in the tree by
+    /// its path, so that imports lead to it.
+    pub fn is_unread(&self, number: usize) -> bool
+        requires { number < length self.now }
+        ensures { option_map (λ file. file.is_unread) (slice_get self.now number) ≡ Some result }
+    {
+        self.file(number).is_unread()
+    }
+
     /// The file with a number, as it was handed in.
     fn file(&self, number: usize) -> &Source
         requires { number < length self.now }
-        ensures { option_map (λ file. record { path = file.path; bytes = file.bytes }) (slice_get self.now number)
-            ≡ Some result.now }
+        ensures { option_map (λ file. record { path = file.path; bytes = file.bytes; is_unread = file.is_unread })
+            (slice_get self.now number) ≡ Some result.now }
     {
         match self.sources.get(number) {
             Some(source) => source,

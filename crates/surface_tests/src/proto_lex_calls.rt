@@ -1,7 +1,7 @@
 //! Texts, positions and tokens.
 
 use crate::shared::see;
-use proto_lex::{Encoding, LexFault, Position, Span, Text, Tokens, lex};
+use proto_lex::{Encoding, Hashes, LexFault, Position, Span, Text, Tokens, lex, lex_with};
 use std::alloc::Global;
 use std::process::Abort;
 use std::test::Fail;
@@ -60,4 +60,34 @@ fn see_text(rt: &impl Abort, alloc: Global, text: &Text) -> Result<(), LexFault>
 fn tokens_have_slices_and_their_text(rt: HostRuntime) -> Result<(), Fail> {
     let text = Text::new(rt.alloc(), b"message A {} // tail")?;
     Ok(see_text(&rt, rt.alloc(), &text)?)
+}
+
+/// Sees how many tokens a text has, if a `#` begins a comment in values.
+fn see_count(rt: &impl Abort, alloc: Global, text: &Text, count: usize) -> Result<(), LexFault> {
+    let lexed = lex_with(alloc, text, Hashes::InValues)?;
+    see(
+        rt,
+        lexed.tokens().len() == count,
+        "the tokens without those of a comment",
+    );
+    Ok(())
+}
+
+/// Sees where a text has a byte that can't be there.
+fn see_bad_byte(rt: &impl Abort, alloc: Global, text: &Text, at: usize) {
+    match lex_with(alloc, text, Hashes::InValues) {
+        Err(LexFault::BadByte(bad)) => see(rt, bad == at, "the byte that can't be there"),
+        _ => see(rt, false, "a byte that can't be there"),
+    }
+}
+
+#[test]
+fn hashes_begin_comments_in_values(rt: HostRuntime) -> Result<(), Fail> {
+    let value = Text::new(rt.alloc(), b"option a = { b { } # { } $ '}' // }\n };")?;
+    see_count(&rt, rt.alloc(), &value, 9)?;
+    let body = Text::new(rt.alloc(), b"message A { # }")?;
+    see_bad_byte(&rt, rt.alloc(), &body, 12);
+    let inner = Text::new(rt.alloc(), b"option a = { b { # } };")?;
+    see_bad_byte(&rt, rt.alloc(), &inner, 17);
+    Ok(())
 }

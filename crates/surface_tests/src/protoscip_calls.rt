@@ -21,7 +21,11 @@ fn add_source(
 ) -> Result<(), AllocError> {
     let path = String::from_str(alloc, path)?;
     let bytes = Vec::from_slice(alloc, text.as_bytes())?;
-    list.push(Source { path, bytes })?;
+    list.push(Source {
+        path,
+        bytes,
+        is_unread: false,
+    })?;
     Ok(())
 }
 

@@ -57,6 +57,7 @@ fn escape_len(bytes: &[u8]) -> Option<usize>
 ///
 /// It is at `at`, before `others`, in a string that opens at `opening`.
 #[tactic(auto, unfolding(crate::specs::Reading::character_at))]
+#[inline(always)]
 fn character_at(first: u8, others: &[u8], opening: usize, at: usize) -> Result<usize, LexFault>
     requires { length others.now ≤ max_text_length }
     ensures value { result ≡ character_at opening at first others.now }
@@ -74,6 +75,7 @@ fn character_at(first: u8, others: &[u8], opening: usize, at: usize) -> Result<u
 }
 
 /// How many bytes the string takes that opens with `quote` at `opening`, before `others`.
+#[inline(always)]
 pub(crate) fn literal_at(quote: u8, others: &[u8], opening: usize) -> Result<usize, LexFault>
     requires { opening + length others.now ≤ max_text_length }
     ensures value { result ≡ literal_at quote opening 0 1 others.now }

@@ -64,6 +64,7 @@ fn run_len_after(may_hold_signs: bool, first: u8, others: &[u8]) -> usize
 }
 
 /// The run of a number that begins the bytes.
+#[inline(always)]
 fn run_of(bytes: &[u8]) -> &[u8]
     requires { length bytes.now ≤ max_text_length }
     ensures { result.now ≡ run_of bytes.now }
@@ -161,6 +162,7 @@ fn is_float(run: &[u8]) -> bool
 }
 
 /// The kind of number that the run spells, if it spells one.
+#[inline(always)]
 fn number_kind(run: &[u8]) -> Option<TokenKind>
     ensures { result ≡ number_kind run.now }
 {
@@ -175,6 +177,7 @@ fn number_kind(run: &[u8]) -> Option<TokenKind>
 
 /// The number that begins the bytes, which are at the offset `at`.
 #[tactic(auto, unfolding(crate::specs::Reading::number_at))]
+#[inline(always)]
 pub(crate) fn number_at(bytes: &[u8], at: usize) -> Result<Piece, LexFault>
     requires { length bytes.now ≤ max_text_length }
     ensures { result ≡ number_at at bytes.now }

@@ -16,6 +16,8 @@ use memchr::memmem;
 #[derive(Clone, Copy, Debug, PartialEq, Eq)]
 pub(crate) enum PieceKind {
     Blank,
+    /// A `#` that begins a comment, or another sign in one that begins no token.
+    Odd,
     Comment(CommentKind),
     Token(TokenKind),
 }
@@ -40,7 +42,8 @@ fn block_len(others: &[u8]) -> Option<usize>
 }
 
 /// The kind of the sign that is this one character.
-fn sign_kind(b: u8) -> Option<TokenKind>
+#[inline(always)]
+pub(crate) fn sign_kind(b: u8) -> Option<TokenKind>
     ensures { result ≡ sign_kind b }
 {
     match b {
@@ -97,6 +100,7 @@ fn slash_at(others: &[u8], at: usize) -> Result<Piece, LexFault>
 
 /// What these bytes begin with, which are at `at`.
 #[tactic(auto, unfolding(crate::specs::Reading::piece_at))]
+#[inline(always)]
 pub(crate) fn piece_at(bytes: &[u8], at: usize) -> Result<Piece, LexFault>
     requires { at + length bytes.now ≤ max_text_length }
     ensures { result ≡ piece_at at bytes.now }

@@ -26,11 +26,11 @@ returns-clause-put g c =
     let options = c.args.options.now in
     let whole = c.in_ok-joined.joined in
     puts gives (choices_in options) (paths_in options)
-    (place g.P.OutPlace g.P.Part.Sink c.args.at.now c.put.new.at) whole c.put.result
+    (place g.P.OutPlace g.P.Part.Sink c.args.at.now c.put-done.new.at) whole c.put-done.result
     (subst (λ (paths : List (String Global)). HasPieces gives (choices_in options) (map string_bytes paths) whole)
     c.as_slice.ensures.value
     (subst (λ (choices : JoinChoices). HasPieces gives choices (map string_bytes c.as_slice.result.now) whole)
-    c.in_ok-choices.ensures c.in_ok-joined.ensures.joined)) c.put.ensures.put
+    c.in_ok-choices.ensures c.in_ok-joined.ensures.joined)) c.put-done.ensures.put
 
 pub returns-clause-stops : goal.returns-clause-stops
 returns-clause-stops g c =
@@ -38,8 +38,8 @@ returns-clause-stops g c =
     let options = c.args.options.now in
     let whole = c.in_ok-joined.joined in
     puts_not gives (choices_in options) (paths_in options)
-    (place g.P.OutPlace g.P.Part.Sink c.args.at.now c.put.new.at) whole c.put.result
+    (place g.P.OutPlace g.P.Part.Sink c.args.at.now c.put-done.new.at) whole c.put-done.result
     (subst (λ (paths : List (String Global)). HasPieces gives (choices_in options) (map string_bytes paths) whole)
     c.as_slice.ensures.value
     (subst (λ (choices : JoinChoices). HasPieces gives choices (map string_bytes c.as_slice.result.now) whole)
-    c.in_ok-choices.ensures c.in_ok-joined.ensures.joined)) c.put.ensures.stops
+    c.in_ok-choices.ensures c.in_ok-joined.ensures.joined)) c.put-done.ensures.stops

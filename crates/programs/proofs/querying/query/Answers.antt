@@ -13,13 +13,13 @@ returns-in_err-index g c =
 pub returns-in-Ok : goal.returns-in-Ok
 returns-in-Ok g c =
     told c.args.host.now.manner (g.F.ReadFiles.gives c.args.host.now.files.now) (map string_bytes c.args.paths.now)
-    (reading g.I.Feed c.args.commands.now c.answer_commands_in.new.commands)
-    (writing g.W.Sink c.args.answers.now c.answer_commands_in.new.answers) c.in_ok-index.index
+    (reading g.I.Feed c.args.commands.now c.answer_last.new.commands)
+    (writing g.W.Sink c.args.answers.now c.answer_last.new.answers) c.in_ok-index.index
     c.in_ok-index.ensures (Ok tt) c.in-Ok.ensures
 
 pub returns-in-Err : goal.returns-in-Err
 returns-in-Err g c =
     told c.args.host.now.manner (g.F.ReadFiles.gives c.args.host.now.files.now) (map string_bytes c.args.paths.now)
-    (reading g.I.Feed c.args.commands.now c.answer_commands_in.new.commands)
-    (writing g.W.Sink c.args.answers.now c.answer_commands_in.new.answers) c.in_ok-index.index
+    (reading g.I.Feed c.args.commands.now c.answer_last.new.commands)
+    (writing g.W.Sink c.args.answers.now c.answer_last.new.answers) c.in_ok-index.index
     c.in_ok-index.ensures (Err c.in-Err.fault) c.in-Err.ensures

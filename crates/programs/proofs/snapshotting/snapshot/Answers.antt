@@ -13,7 +13,7 @@ pub returns-in-Ok : goal.returns-in-Ok
 returns-in-Ok g c =
     let Read : List (String Global) → Type 0 = λ paths.
     IsIndexOf (g.F.ReadFiles.gives c.args.host.now.files.now) (map string_bytes paths) (Ok c.in-Ok.queries) in
-    read c.in-Ok.queries (subst Read c.as_slice-paths.ensures.value c.in-Ok.ensures) c.show.ensures
+    read c.in-Ok.queries (subst Read c.as_slice-paths.ensures.value c.in-Ok.ensures) c.show-status.ensures
 
 pub returns-in-Err : goal.returns-in-Err
 returns-in-Err g c =

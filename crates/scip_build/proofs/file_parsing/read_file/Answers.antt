@@ -12,4 +12,4 @@ returns g c =
     (IsParsedFile reader.faulty reader.dialect reader.form (g.C.Chooses.allows reader.chooser.now) c.args.number file)
     (MayRefuseParsing reader.faulty reader.dialect file) in
     given_at Holds (slice_get c.args.tree.now c.args.number) c.path.result.now c.text.result.now c.is_included.result
-    c.path.ensures c.text.ensures c.is_included.ensures c.read_parts.ensures
+    c.is_unread.result c.path.ensures c.text.ensures c.is_included.ensures c.is_unread.ensures c.read_parts.ensures

@@ -9,7 +9,7 @@ use Rattle.source_tree.proofs.MendedTreeLemmas.{length-with_texts, same_at}
 use Rattle.source_tree.proofs.tree.Tree.file.Goals as goal
 
 abbrev held : TreeFile → SourceFile
-held file = record { path = file.path; bytes = file.bytes }
+held file = record { path = file.path; bytes = file.bytes; is_unread = file.is_unread }
 
 pub index-requires : goal.index-requires
 index-requires c =

@@ -138,6 +138,14 @@ class Tree:
                     return found
         return None
 
+    def item(self, message_set, message):
+        """The extension of a message set that a message declares and that is of the message: the first one."""
+        for found in message.source.declarations:
+            if found.kind == "field" and found.outer is message and found.extended and (
+                    self.holder(found) is message_set and self.inside_field(found) == ("message", message)):
+                return found
+        return None
+
     def link(self, file, option):
         """Of each name of an option: what it names, if anything, and whether it should name something and doesn't."""
         results, contexts = [], []
@@ -170,7 +178,7 @@ class Tree:
                 return None, False, ("untold", None)
         elif kind == "message":
             extended = messages = [what]
-        if kind == "untold" and name.role != "extension":
+        if kind == "skipped" or kind == "untold" and name.role != "extension":
             return None, False, context
         if kind == "entries" and name.role == "field" and word in ("key", "value"):
             return None, False, self.given_by(what.type, what) if word == "value" else ("scalar", None)
@@ -179,10 +187,16 @@ class Tree:
         found = None
         if name.role == "field" and messages:
             found = self.member(messages[0], word, in_braces)
+            if not found and in_braces and word in messages[0].reserved:
+                return None, False, ("skipped", None)
         elif name.role == "extension" and extended:
             scope = around(extended[0].full_name) if in_braces else option.scope
-            found = self.looked_up(file, TypeUse(scope, name.has_dot, name.words), ("field",), None)
-            found = found if found and self.holder(found) in extended else None
+            named = self.looked_up(file, TypeUse(scope, name.has_dot, name.words), ("field", "message"), None)
+            if named and named.kind == "field":
+                found = named if self.holder(named) in extended else None
+            elif named and in_braces and kind == "message" and what.is_set:
+                found = self.item(what, named)
+                name.is_type = found is not None
         elif name.role == "packed" and kind == "message" and what.full_name == "google.protobuf.Any":
             found = self.looked_up(file, TypeUse("", True, name.words), ("message",), None)
         elif name.role == "value" and kind == "enum":
@@ -196,8 +210,10 @@ class Tree:
 
     def components(self, name, found):
         """The symbol of what each component of a name names: of the last the declaration's, of those before what is
-        around it."""
+        around it, or around its message if the name is that one's."""
         symbols, outer = [found.symbol], found.outer if found.kind != "value" else None
+        if name.is_type:
+            outer = outer.outer
         words = found.source.package.split(".") if found.source.package else []
         while len(symbols) < len(name.words):
             if outer:

@@ -56,6 +56,15 @@ SCOPES = head() + "".join(extending(kind) if kind == "Message" else extending(ki
   message In { option (x) = 1; }
 }
 """
+# A message set, and messages with extensions of it.
+SET = head() + """message Set { option message_set_wire_format = true; extensions 4 to max; }
+message I { extend Set { optional I ext = 100; } optional int32 i = 1; }
+message U { optional int32 i = 1; extend Set { optional I other = 101; optional U first = 102; optional U two = 103; } }
+message V { optional int32 i = 1; message In { extend Set { optional V deep = 104; } } }
+extend Set { optional V v = 105; }
+message Q { message In { optional int32 j = 1; extend Set { optional In in = 106; } } }
+""" + extending("File", "s", "Set")
+WIRE = "google/protobuf/MessageOptions#message_set_wire_format. "
 OWN = {"other.proto": 'syntax = "proto2"; package google.protobuf; message FieldOptions { optional bool lazy = 1; }'}
 # Included files of which one imports in private what has the type of its option.
 RULES = {"o/rule.proto": 'syntax = "proto3"; package o; message Rule { string get = 1; Rule more = 2; }',
@@ -166,11 +175,31 @@ WORKED = (
      EXPORTS, "p/x. p/T#es. p/T#n. p/N#e. p/N#i. p/T#es. p/E#W.", ""),
     ("separators twice", {"a.proto": BRACES + "option (x) = { n { i: 1,, e: W; ; ns { } } , es: V };"}, EXPORTS,
      "p/x. p/T#n. p/N#i. p/N#e. p/E#W. p/N#ns. p/T#es. p/E#V.", ""),
+    ("a reserved name in braces",
+     {"a.proto": BRACES.replace("message T { ", "message T { reserved \"old\", 'ol' \"der\", '\\x6fct'; ")
+      + "option (x) = { old: [{ x: 1 }, 2] older { a: V [p.gone]: W } oct: GONE n { i: 1 } }; option (x).old = 1;"},
+     EXPORTS, "p/x. p/T#n. p/N#i. p/x.", "old"),
+    ("a name that another message reserves",
+     {"a.proto": BRACES.replace("message H {", "message H { reserved 'zz';") + "option (x) = { zz: 1 n { } };"},
+     EXPORTS, "p/x. p/T#n.", "zz"),
     ("the domains of Any", {"a.proto": BRACES + "option (x) = { any { [type.googleprod.com/p.N] { i: 1 } "
                                         "[example.com/p.N] { i: 1 } } };"}, EXPORTS,
      "p/x. p/T#any. p/ p/N# p/N#i.", "p.N"),
     ("two paths in Any", {"a.proto": BRACES + "option (x) = { any { [type.googleapis.com/x/p.N] { i: 1 } } n { } };"},
      EXPORTS, "p/x. p/T#any. p/T#n.", ""),
+    ("a comment of a #", {"a.proto": BRACES + "option (x) = { n { i: 1 } # ns { gone: 1 } '}' $\n // }\n /* } */ e );\n"
+                                     " };\noption (x).n = {# i: 1\n}; option (x).g = { ga: 1 #};"}, EXPORTS,
+     "p/x. p/T#n. p/N#i. p/x. p/T#n. p/x. p/T#g. p/T#G#ga.", ""),
+    ("a message set", {"a.proto": SET + "option (s) = { [p.I] { i: 1 } [U]: { i: 2 } [Q.In] { j: 3 } };"}, EXPORTS,
+     WIRE + "p/s. p/ p/I#ext. p/I#i. p/U#first. p/U#i. p/Q# p/Q#In#in. p/Q#In#j.", ""),
+    ("an extension of a set by its own name", {"a.proto": SET + "option (s) = { [p.I.ext] { i: 1 } };"}, EXPORTS,
+     WIRE + "p/s. p/ p/I# p/I#ext. p/I#i.", ""),
+    ("no extension of its own", {"a.proto": SET + "option (s) = { [p.V] { i: 1 } [p.v] { i: 2 } };"}, EXPORTS,
+     WIRE + "p/s. p/ p/v. p/V#i.", "p.V"),
+    ("a message of a set in parentheses", {"a.proto": SET + "option (s).(p.I) = { i: 1 };"}, EXPORTS, WIRE + "p/s.",
+     "p.I"),
+    ("no message set", {"a.proto": SET.replace("= true", "= false") + "option (s) = { [p.I] { i: 1 } };"}, EXPORTS,
+     WIRE + "p/s.", "p.I"),
     ("a type that isn't there", {"a.proto": head() + extending("File", "x", "Gone") + "option (x).y = 1;"}, EXPORTS,
      "p/x.", "y"),
 )
@@ -277,7 +306,8 @@ class Maker:
 
     def value(self, kind):
         if kind in (".t.T", ".s.T"):
-            return f"{{ {self.braces(kind)} }}"
+            remark = self.chance.choice(("",) * 9 + ("# gone: 1 { $ '}' } ;",))
+            return f"{{ {self.braces(kind)} {remark} }}"
         return self.chance.choice(("V", "W", "W", "Z")) if kind in (".t.E", ".s.E") else "1"
 
     def option(self, element):

@@ -18,10 +18,12 @@ use Rattle.option_link.specs.Contexts.PlaceGives.{field as gives-field, extensio
 use Rattle.option_link.specs.Contexts.PlaceGives.{message as gives-message}
 use Rattle.option_link.specs.Contexts.Leads.{named as leads-named, key as leads-key, map_value as leads-map_value}
 use Rattle.option_link.specs.Contexts.Leads.{default as leads-default, untold as leads-untold}
-use Rattle.option_link.specs.Contexts.Leads.{without_message as leads-without_message}
+use Rattle.option_link.specs.Contexts.Leads.{without_message as leads-without_message, reserved as leads-reserved}
+use Rattle.option_link.specs.Contexts.Leads.{skipped as leads-skipped}
 use Rattle.option_link.specs.Contexts.StandsIn.{first as stands-first, further as stands-further}
 use Rattle.option_link.proofs.DefaultLemmas.{one_defaulted}
-use Rattle.option_link.proofs.NameLemmas.{one_word, one_named, none_in_entries, none_untold, none_without_message}
+use Rattle.option_link.proofs.NameLemmas.{one_word, one_named, none_in_entries, none_skipped, none_untold}
+use Rattle.option_link.proofs.NameLemmas.{none_without_message}
 use Rattle.option_link.proofs.TypeLemmas.{one_field_gives, one_value_gives}
 
 key_or_value : codes "key" ≡ codes "value" → ⊥
@@ -66,6 +68,14 @@ module _ (files : List File) (origins : HaveOrigins files) (known : List OptionF
         absurd (none_untold files known file text option number name name.role at x)
     one_lead number name _ a _ (leads-named {at = at} x gives) (leads-without_message acting none) =
         absurd (none_without_message files known file text option number name name.role at acting none x)
+    one_lead number name _ a _ (leads-named {at = at} x gives) (leads-reserved is none) = absurd (none at x)
+    one_lead number name _ a _ (leads-named {at = at} x gives) leads-skipped =
+        absurd (none_skipped files known file text option number name name.role at x)
+    one_lead number name _ _ b (leads-reserved is none) (leads-named {at = at} x gives) = absurd (none at x)
+    one_lead number name _ _ _ (leads-reserved is none) (leads-reserved its neither) = refl
+    one_lead number name _ _ b leads-skipped (leads-named {at = at} x gives) =
+        absurd (none_skipped files known file text option number name name.role at x)
+    one_lead number name _ _ _ leads-skipped leads-skipped = refl
     one_lead number name _ _ b (leads-key {holder = holder} acting words) (leads-named {at = at} x gives) =
         absurd (none_in_entries files known file text option number name name.role holder at x)
     one_lead number name _ _ _ (leads-key acting words) (leads-key also its) = refl

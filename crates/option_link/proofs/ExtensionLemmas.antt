@@ -15,6 +15,7 @@ use Rattle.proto_options.specs.declared.names.OptionName.{OptionName}
 use Rattle.proto_options.specs.declared.names.OptionRole.TheVariants as role
 use Rattle.proto_options.specs.declared.options.FileOption.{FileOption}
 use Rattle.proto_visibility.specs.Files.{File, IsPresent}
+use Rattle.proto_visibility.specs.Knows.{KnowsAs, is_message}
 use Rattle.proto_visibility.specs.Knows.NameKind.{OfDeclaration}
 use Rattle.std.proofs.lemmas.Bool.{false≢true}
 use Rattle.option_link.specs.declared.contexts.Context.{Context}
@@ -23,14 +24,16 @@ use Rattle.option_link.specs.declared.facts.OptionFacts.{OptionFacts}
 use Rattle.option_link.specs.declared.place.DeclaredPlace.{DeclaredPlace}
 use Rattle.option_link.specs.Places.{Stands, StandsAs}
 use Rattle.option_link.specs.Fields.{IsFieldOf}
-use Rattle.option_link.specs.Lookups.{LooksUp, is_field}
+use Rattle.option_link.specs.Lookups.{LooksFor, is_field}
 use Rattle.option_link.specs.Contexts.{HasWords, IsMessageNamed, MayBeExtended, LookedUpFrom, NamesAs, options_message}
 use Rattle.option_link.specs.Contexts.LookedUpFrom.{part, in_braces as from_braces}
 use Rattle.option_link.specs.Contexts.MayBeExtended.{options as extended-options, message as extended-message}
-use Rattle.option_link.specs.Contexts.NamesAs.{extension as names-extension}
-use Rattle.option_link.specs.Tables.{IsClear, IsOnly, IsOwned, LooksFor}
-use Rattle.option_link.specs.Found.{IsExtendedName, IsExtensionFrom, IsExtensionNamed, IsScope, in_braces}
-use Rattle.option_link.proofs.NameLemmas.{looked_for, looks_up, one_looked_for, same_words}
+use Rattle.option_link.specs.Contexts.NamesAs.{extension as names-extension, item as names-item}
+use Rattle.option_link.specs.Tables.{IsClear, IsOnly, IsOwned}
+use Rattle.option_link.specs.Found.{IsBehind, IsExtendedName, IsExtensionNamed, IsItemNamed, IsNamedBy, IsScope}
+use Rattle.option_link.specs.Found.{IsSetIn, IsSoughtName, LacksSoughtName, in_braces}
+use Rattle.option_link.specs.Found.IsNamedBy.{extension as by-extension, item as by-item}
+use Rattle.option_link.proofs.NameLemmas.{known_up, looked_for, looks_up, one_from, one_full_name, same_words}
 use Rattle.option_link.proofs.OnlyLemmas.{one_only, owned_kind, owned_known, stands_only}
 use Rattle.option_link.proofs.PlaceLemmas.{same_declaration}
 
@@ -51,6 +54,27 @@ owned_field files file name field owned =
     let its = owned_kind files file is_field refl name field owned in
     let kind = field_kind its.0.kind its.2 in
     (its.0, subst (λ (k : DeclarationKind). StandsAs files k field its.0) kind its.1, its.3)
+
+message_kind : (kind : DeclarationKind) → is_message (OfDeclaration kind) ≡ true → kind ≡ Message
+message_kind Message is = refl
+message_kind Enum is = absurd (false≢true is)
+message_kind Service is = absurd (false≢true is)
+message_kind Field is = absurd (false≢true is)
+message_kind Oneof is = absurd (false≢true is)
+message_kind Value is = absurd (false≢true is)
+message_kind Method is = absurd (false≢true is)
+
+-- and as a message
+pub owned_message : (files : List File) (file : ℕ) (name : List ℕ) (message : DeclaredPlace)
+    → IsOwned files file is_message name message
+    → (d : Declaration) × StandsAs files Message message d × (d.full_name ≡ name)
+owned_message files file name message owned =
+    let its = owned_kind files file is_message refl name message owned in
+    let kind = message_kind its.0.kind its.2 in
+    (its.0, subst (λ (k : DeclarationKind). StandsAs files k message its.0) kind its.1, its.3)
+
+pub same_message : (a b : DeclaredPlace) → inside.Message a ≡ inside.Message b → a ≡ b
+same_message a b e = cc
 
 -- ---- names of what may be extended
 
@@ -102,6 +126,10 @@ pub untold_extends_none : (files : List File) (option : FileOption) (message : D
     → MayBeExtended files option inside.Untold message → ⊥
 untold_extends_none files option message may = elim may [ ]
 
+pub skipped_extends_none : (files : List File) (option : FileOption) (message : DeclaredPlace)
+    → MayBeExtended files option inside.Skipped message → ⊥
+skipped_extends_none files option message may = elim may [ ]
+
 pub options_extended : (files : List File) (option : FileOption) (message : DeclaredPlace)
     → MayBeExtended files option inside.Options message
     → IsMessageNamed files (options_message option.element) message × IsPresent files message.file
@@ -117,87 +145,170 @@ pub inside_braces : (option : FileOption) (number : ℕ) (extended scope : List 
     → IsAround extended scope → IsScope option number extended scope
 inside_braces option number extended scope is around = inr (leb-true option.setting.parts number is, around)
 
--- ---- from the words to the field
+-- ---- the only full name by its words
+
+module _ (files : List File) (file : ℕ) (option : FileOption) (number : ℕ) (context : Context) where
+  module _ (clear : IsClear files context) (extended scope : List ℕ)
+      (called : IsExtendedName files option context extended) (is_scope : IsScope option number extended scope) where
+    same_scope : (message : DeclaredPlace) (from : List ℕ) → MayBeExtended files option context message
+        → LookedUpFrom files option number message from → from ≡ scope
+    same_scope message _ may (part less) = elim is_scope [
+      | inl one ↦ sym one.1
+      | inr other ↦ absurd (omega (arith, less, other.0))
+    ]
+    same_scope message _ may (from_braces {declaration = d} {outer = f} least stands is) = elim is_scope [
+      | inl one ↦ absurd (omega (arith, least, one.0))
+      | inr other ↦ one_around
+          (subst (λ (n : List ℕ). IsAround n f) (called message d may stands.stands) is) other.1
+    ]
+
+    extended_clear : (outer : Context) (message : DeclaredPlace) → IsClear files outer
+        → MayBeExtended files option outer message → (d : Declaration) × StandsAs files Message message d
+    extended_clear _ message known_clear (extended-options m present) = (m.declaration, m.stands)
+    extended_clear _ message known_clear extended-message = known_clear
+
+    looked_from : (message : DeclaredPlace) → MayBeExtended files option context message
+        → LookedUpFrom files option number message scope
+    looked_from message may = elim is_scope [
+      | inl one ↦ subst (LookedUpFrom files option number message) (sym one.1) (part one.0)
+      | inr other ↦ (
+          let its = extended_clear context message clear may in
+          from_braces other.0 its.1 (subst (λ (n : List ℕ). IsAround n scope)
+          (sym (called message its.0 may its.1.stands)) other.1))
+    ]
+
+    module _ (has_dot : Bool) (words : List (List ℕ)) where
+      pub sought_by : (name : List ℕ) → LooksFor files file has_dot words scope name
+          → IsSoughtName files file option number context has_dot words name
+      sought_by name found = record { from = scope; looked = looked_from; found = found }
+
+      pub none_sought : ((name : List ℕ) → LooksFor files file has_dot words scope name → ⊥)
+          → LacksSoughtName files file option number context has_dot words
+      none_sought none = λ message from name may looked found.
+          none name (subst (λ (s : List ℕ). LooksFor files file has_dot words s name)
+          (same_scope message from may looked) found)
+
+  pub lacks_sought : (has_dot : Bool) (words : List (List ℕ))
+      → ((message : DeclaredPlace) → MayBeExtended files option context message → ⊥)
+      → LacksSoughtName files file option number context has_dot words
+  lacks_sought has_dot words none = λ message from name may looked found. none message may
+
+-- ---- what it names
 
 module _ (files : List File) (known : List OptionFacts) (file : ℕ) (text : List ℕ) (option : FileOption) (number : ℕ)
-    (name : OptionName) (context : Context) (clear : IsClear files context) (extended scope : List ℕ)
-    (words : List (List ℕ)) (called : IsExtendedName files option context extended)
-    (is_scope : IsScope option number extended scope) (has_words : HasWords text name words) where
-  same_scope : (message : DeclaredPlace) (from : List ℕ) → MayBeExtended files option context message
-      → LookedUpFrom files option number message from → from ≡ scope
-  same_scope message _ may (part less) = elim is_scope [
-    | inl one ↦ sym one.1
-    | inr other ↦ absurd (omega (arith, less, other.0))
-  ]
-  same_scope message _ may (from_braces {declaration = d} {outer = f} least stands is) = elim is_scope [
-    | inl one ↦ absurd (omega (arith, least, one.0))
-    | inr other ↦ one_around
-        (subst (λ (n : List ℕ). IsAround n f) (called message d may stands.stands) is) other.1
-  ]
+    (name : OptionName) (words : List (List ℕ)) (has_words : HasWords text name words) where
+  abbrev pub Names : Context → DeclaredPlace → Type 0
+  Names context at = NamesAs files known file text option number name role.Extension context at
 
-  abbrev pub From : DeclaredPlace → Type 0
-  From field = IsExtensionFrom files known file option context (is_some name.name.leading_dot) words scope field
+  abbrev pub NamedBy : (full : List ℕ) → Context → DeclaredPlace → Type 0
+  NamedBy full context at = IsNamedBy files known file option number context full at
 
-  abbrev pub Names : DeclaredPlace → Type 0
-  Names at = NamesAs files known file text option number name role.Extension context at
+  abbrev pub Sought : (full : List ℕ) → Context → Type 0
+  Sought full context = IsSoughtName files file option number context (is_some name.name.leading_dot) words full
 
-  pub from_names : (at : DeclaredPlace) → Names at → From at
-  from_names at (names-extension {message = m} {words = ws} {from = f} {full_name = g} {declaration = d} its may from up
-      owner stands named of_message) =
-      let dot = is_some name.name.leading_dot in
-      record {
-        full_name = g;
-        found = subst (λ (s : List ℕ). LooksUp files file dot words s g) (same_scope m f may from)
-            (subst (λ (w : List (List ℕ)). LooksUp files file dot w f g) (same_words text name ws words its has_words)
-            up);
-        named = record {
-          owned = record { owner = owner; only = stands_only files Field g at d stands named };
-          message = m;
-          may = may;
-          is = of_message;
-        };
-      }
+  pub to_named : (full : List ℕ) (context : Context) → Sought full context → (at : DeclaredPlace) → Names context at
+      → NamedBy full context at
+  to_named full context sought at
+      (names-extension {message = m} {words = ws} {from = f} {full_name = g} {declaration = d} its may from up owner
+      stands named of_message) =
+      let same = one_full_name (same_words text name ws words its has_words)
+      (one_from files option number context m m f sought.from may may from (sought.looked m may)) (looked_for up)
+      sought.found in
+      subst (λ (n : List ℕ). NamedBy n context at) same (by-extension (record {
+        owned = record { owner = owner; only = stands_only files Field g at d stands named };
+        message = m;
+        may = may;
+        is = of_message;
+      }))
+  to_named full _ sought at
+      (names-item {set = set} {type = t} {words = ws} {from = f} {full_name = g} {declaration = d} its braces says from
+      found unknown owner stands named first) =
+      let same = one_full_name (same_words text name ws words its has_words)
+      (one_from files option number (inside.Message set) set set f sought.from extended-message extended-message from
+      (sought.looked set extended-message)) found sought.found in
+      subst (λ (n : List ℕ). NamedBy n (inside.Message set) at) same
+      (by-item {set = set} (record { is = refl; braces = braces; says = says }) unknown (record {
+        type = t;
+        owned = record { owner = owner; only = stands_only files Message g t d stands named };
+        is = first;
+      }))
 
-  extended_clear : (outer : Context) (message : DeclaredPlace) → IsClear files outer
-      → MayBeExtended files option outer message
-      → (d : Declaration) × StandsAs files Message message d
-  extended_clear _ message known_clear (extended-options m present) = (m.declaration, m.stands)
-  extended_clear _ message known_clear extended-message = known_clear
+  pub from_named : (full : List ℕ) (context : Context) → Sought full context → (at : DeclaredPlace)
+      → NamedBy full context at → Names context at
+  from_named full context sought at (by-extension x) =
+      let field = owned_field files file full at x.owned in
+      names-extension has_words x.may (sought.looked x.message x.may)
+      (looks_up sought.found (owned_known files file is_field refl full at x.owned)) x.owned.owner field.1 field.2 x.is
+  from_named full context sought at (by-item {set = set} s unknown x) =
+      let message = owned_message files file full x.type x.owned in
+      let may = subst (λ (c : Context). MayBeExtended files option c set) (sym s.is) extended-message in
+      subst (λ (c : Context). Names c at) (sym s.is)
+      (names-item has_words s.braces s.says (sought.looked set may) sought.found unknown x.owned.owner message.1
+      message.2 x.is)
 
-  looked_from : (message : DeclaredPlace) → MayBeExtended files option context message
-      → LookedUpFrom files option number message scope
-  looked_from message may = elim is_scope [
-    | inl one ↦ subst (LookedUpFrom files option number message) (sym one.1) (part one.0)
-    | inr other ↦ (
-        let its = extended_clear context message clear may in
-        from_braces other.0 its.1 (subst (λ (n : List ℕ). IsAround n scope)
-        (sym (called message its.0 may its.1.stands)) other.1))
-  ]
+  pub lacks_named : (context : Context)
+      → LacksSoughtName files file option number context (is_some name.name.leading_dot) words → (at : DeclaredPlace)
+      → Names context at → ⊥
+  lacks_named context none at
+      (names-extension {message = m} {words = ws} {from = f} {full_name = g} its may from up owner stands named
+      of_message) =
+      none m f g may from (subst (λ (w : List (List ℕ)). LooksFor files file (is_some name.name.leading_dot) w f g)
+      (same_words text name ws words its has_words) (looked_for up))
+  lacks_named _ none at
+      (names-item {set = set} {words = ws} {from = f} {full_name = g} its braces says from found unknown owner stands
+      named first) =
+      none set f g extended-message from
+      (subst (λ (w : List (List ℕ)). LooksFor files file (is_some name.name.leading_dot) w f g)
+      (same_words text name ws words its has_words) found)
 
-  pub names_from : (at : DeclaredPlace) → From at → Names at
-  names_from at x =
-      let n = x.named in
-      let field = owned_field files file x.full_name at n.owned in
-      names-extension has_words n.may (looked_from n.message n.may) x.found n.owned.owner field.1 field.2 n.is
+  -- how much of its full name comes behind what is spelled
 
--- ---- step by step
+  pub behind_known : (full : List ℕ) (context : Context) → Sought full context → KnowsAs files file is_field full
+      → IsBehind files known file text option number name role.Extension context 0
+  behind_known full context sought is at (names-extension its may from up owner stands named of_message) = refl
+  behind_known full _ sought is at
+      (names-item {set = set} {words = ws} {from = f} its braces says from found unknown owner stands named first) =
+      absurd (unknown (subst (KnowsAs files file is_field) (sym (one_full_name
+      (same_words text name ws words its has_words)
+      (one_from files option number (inside.Message set) set set f sought.from extended-message extended-message from
+      (sought.looked set extended-message)) found sought.found)) is))
 
-module _ (files : List File) (known : List OptionFacts) (file : ℕ) (option : FileOption) (context : Context)
-    (has_dot : Bool) (words : List (List ℕ)) (scope full : List ℕ)
-    (found : LooksFor files file has_dot words scope full) where
-  pub named_from : (field : DeclaredPlace) → IsExtensionFrom files known file option context has_dot words scope field
+  pub behind_unknown : (full : List ℕ) (context : Context) → Sought full context
+      → (KnowsAs files file is_field full → ⊥)
+      → IsBehind files known file text option number name role.Extension context 1
+  behind_unknown full context sought not at
+      (names-extension {message = m} {words = ws} {from = f} its may from up owner stands named of_message) =
+      absurd (not (subst (KnowsAs files file is_field) (one_full_name (same_words text name ws words its has_words)
+      (one_from files option number context m m f sought.from may may from (sought.looked m may)) (looked_for up)
+      sought.found) (known_up up)))
+  behind_unknown full _ sought not at
+      (names-item its braces says from found unknown owner stands named first) = refl
+
+-- ---- in a message set, or not
+
+module _ (files : List File) (known : List OptionFacts) (file : ℕ) (option : FileOption) (number : ℕ)
+    (context : Context) (full : List ℕ) (field : DeclaredPlace) where
+  pub without_set : ((set : DeclaredPlace) → IsSetIn files known option number context set → ⊥)
+      → IsNamedBy files known file option number context full field
       → IsExtensionNamed files known file option context full field
-  named_from field x =
-      subst (λ (n : List ℕ). IsExtensionNamed files known file option context n field)
-      (one_looked_for (looked_for x.found) found) x.named
+  without_set none (by-extension x) = x
+  without_set none (by-item {set = set} s unknown x) = absurd (none set s)
 
-  pub from_named : (field : DeclaredPlace) → IsExtensionNamed files known file option context full field
-      → IsExtensionFrom files known file option context has_dot words scope field
-  from_named field named = record {
-    full_name = full;
-    found = looks_up found (owned_known files file is_field refl full field named.owned);
-    named = named;
-  }
+  pub with_field : KnowsAs files file is_field full → IsNamedBy files known file option number context full field
+      → IsExtensionNamed files known file option context full field
+  with_field is (by-extension x) = x
+  with_field is (by-item s unknown x) = absurd (unknown is)
+
+  pub with_item : (set : DeclaredPlace) → IsSetIn files known option number context set
+      → (KnowsAs files file is_field full → ⊥) → IsNamedBy files known file option number context full field
+      → IsItemNamed files known file set full field
+  with_item set is unknown (by-extension x) =
+      absurd (unknown (owned_known files file is_field refl full field x.owned))
+  with_item set is unknown (by-item {set = other} s also x) =
+      subst (λ (m : DeclaredPlace). IsItemNamed files known file m full field)
+      (same_message other set (sym s.is ∙ is.is)) x
+
+-- ---- by the field with its full name
 
 module _ (files : List File) (known : List OptionFacts) (file : ℕ) (option : FileOption) (context : Context)
     (full : List ℕ) (field : DeclaredPlace) (owned : IsOwned files file is_field full field) where

@@ -189,21 +189,22 @@ gives_nowhere files place none _ (at_enum {declaration = e} there is) = none e t
 
 -- ---- alone by its name
 
-module _ (files : List File) (place : DeclaredPlace) (d : Declaration) (stands : Stands files place d) where
-  pub alone_by : d.kind ≡ Message → IsOnly files place.file d.full_name place
-      → (e : Declaration) × StandsAs files Message place e
-  alone_by kind only = (
+module _ (files : List File) (place : DeclaredPlace) (d : Declaration) (stands : Stands files place d)
+    (kind : DeclarationKind) where
+  pub alone_by : d.kind ≡ kind → IsOnly files place.file d.full_name place
+      → (e : Declaration) × StandsAs files kind place e
+  alone_by is only = (
     only.has.declaration,
-    only_stands files Message d.full_name place only (ap (λ (x : Declaration). x.kind)
-        (same_declaration files place only.has.declaration d only.has.stands stands) ∙ kind),
+    only_stands files kind d.full_name place only (ap (λ (x : Declaration). x.kind)
+        (same_declaration files place only.has.declaration d only.has.stands stands) ∙ is),
   )
 
   pub not_alone_by : (found : Option DeclaredPlace)
       → MatchOption found ((p : DeclaredPlace) → IsOnly files place.file d.full_name p → ⊥)
       (IsOnly files place.file d.full_name) → (found ≡ Some place → ⊥) → (e : Declaration)
-      → StandsAs files Message place e → ⊥
-  not_alone_by None none other e alone = none place (stands_only files Message d.full_name place e alone
+      → StandsAs files kind place e → ⊥
+  not_alone_by None none other e alone = none place (stands_only files kind d.full_name place e alone
       (ap (λ (x : Declaration). x.full_name) (same_declaration files place e d alone.stands stands)))
   not_alone_by (Some one) only other e alone = other (ap Some (one_only files place.file d.full_name one place only
-      (stands_only files Message d.full_name place e alone
+      (stands_only files kind d.full_name place e alone
       (ap (λ (x : Declaration). x.full_name) (same_declaration files place e d alone.stands stands)))))

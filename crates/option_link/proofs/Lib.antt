@@ -29,17 +29,21 @@ pub mod BesideLemmas
 pub mod MemberLemmas
 pub mod MessageLemmas
 pub mod KnownFieldLemmas
+pub mod SaidLemmas
 pub mod MessageKindLemmas
 pub mod NameLemmas
 pub mod OwnFieldLemmas
 pub mod WordLemmas
 pub mod ExtensionLemmas
+pub mod ItemLemmas
 pub mod TargetNameLemmas
 pub mod ValueLemmas
 pub mod RootLemmas
 pub mod ContextLemmas
 pub mod TargetLemmas
 pub mod ReachLemmas
+-- Names are named where the rule gives them something
+pub mod RuleLemmas
 -- Options have one gap at most
 pub mod GapLemmas
 -- What names give
@@ -55,5 +59,6 @@ pub mod FoundAllLemmas
 -- Names in options of a part of files: declarations by their places, and what the names name
 pub mod PartPlaceLemmas
 pub mod PartContextLemmas
+pub mod PartItemLemmas
 pub mod PartNameLemmas
 pub mod PartTargetLemmas

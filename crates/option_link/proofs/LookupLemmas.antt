@@ -7,8 +7,9 @@ use Rattle.proto_visibility.specs.Files.{File}
 use Rattle.proto_visibility.specs.Knows.{is_aggregate}
 use Rattle.proto_link.specs.Resolves.{Innermost}
 use Rattle.option_link.specs.Lookups.{is_any}
-use Rattle.option_link.specs.Tables.{AreSeveral, LooksFor}
-use Rattle.option_link.specs.Tables.LooksFor.{absolute, single, compound}
+use Rattle.option_link.specs.Tables.{AreSeveral}
+use Rattle.option_link.specs.Lookups.{LooksFor}
+use Rattle.option_link.specs.Lookups.LooksFor.{absolute, single, compound}
 use Rattle.option_link.proofs.WordLemmas.{now}
 
 -- ---- where there is none

@@ -226,7 +226,8 @@ module _ (files : List File) (known : List OptionFacts) (file : ℕ) (option : F
       → IsFieldIn files known file option number word inside.Options field
   of_options message is field of = record { message = message; has = fields-options is; is = of }
 
-  pub none_in_options : ((message : DeclaredPlace) → IsOptionsMessage files file (options_message option.element) message
+  pub none_in_options : ((message : DeclaredPlace) → IsOptionsMessage files file (options_message option.element)
+      message
       → ⊥) → (field : DeclaredPlace) → IsFieldIn files known file option number word inside.Options field → ⊥
   none_in_options none field x = none x.message (options_has x.message x.has)
 
@@ -243,6 +244,9 @@ module _ (files : List File) (known : List OptionFacts) (file : ℕ) (option : F
 
   pub none_in_untold : (field : DeclaredPlace) → IsFieldIn files known file option number word inside.Untold field → ⊥
   none_in_untold field x = elim x.has [ ]
+
+  pub none_in_skipped : (field : DeclaredPlace) → IsFieldIn files known file option number word inside.Skipped field → ⊥
+  none_in_skipped field x = elim x.has [ ]
 
 pub clear_message : (files : List File) (source : ℕ) (name : List ℕ) (message : DeclaredPlace)
     → IsOptionsMessage files source name message → (d : Declaration) × StandsAs files Message message d

@@ -56,6 +56,7 @@ module _ (part whole : List File) (at : ℕ → ℕ) (own_paths : HaveOwnPaths p
   context_at (inside.Enum place) = inside.Enum (to place)
   context_at inside.Scalar = inside.Scalar
   context_at inside.Untold = inside.Untold
+  context_at inside.Skipped = inside.Skipped
 
   -- its place is in a file of the part, which has all that its imports lead to
   abbrev pub IsDeepIn : Context → Type 0
@@ -65,6 +66,7 @@ module _ (part whole : List File) (at : ℕ → ℕ) (own_paths : HaveOwnPaths p
   IsDeepIn (inside.Enum place) = Deep place.file
   IsDeepIn inside.Scalar = Unit {0}
   IsDeepIn inside.Untold = Unit {0}
+  IsDeepIn inside.Skipped = Unit {0}
 
   pub record ContextIn (Holds : Context → Type 0) (there : Context) : Type 0 where
     pub own : Context
@@ -87,6 +89,7 @@ module _ (part whole : List File) (at : ℕ → ℕ) (own_paths : HaveOwnPaths p
   from_message (inside.Enum own) place deep same = absurd (cc)
   from_message inside.Scalar place deep same = absurd (cc)
   from_message inside.Untold place deep same = absurd (cc)
+  from_message inside.Skipped place deep same = absurd (cc)
 
   pub from_enum : (own : Context) (place : DeclaredPlace) → IsDeepIn own → context_at own ≡ inside.Enum place
       → From inside.Enum own place
@@ -96,6 +99,7 @@ module _ (part whole : List File) (at : ℕ → ℕ) (own_paths : HaveOwnPaths p
   from_enum (inside.Enum own) place deep same = record { place = own; is = refl; same = cc; deep = deep }
   from_enum inside.Scalar place deep same = absurd (cc)
   from_enum inside.Untold place deep same = absurd (cc)
+  from_enum inside.Skipped place deep same = absurd (cc)
 
   pub from_entries : (own : Context) (place : DeclaredPlace) → IsDeepIn own → context_at own ≡ inside.Entries place
       → From inside.Entries own place
@@ -105,6 +109,7 @@ module _ (part whole : List File) (at : ℕ → ℕ) (own_paths : HaveOwnPaths p
   from_entries (inside.Enum own) place deep same = absurd (cc)
   from_entries inside.Scalar place deep same = absurd (cc)
   from_entries inside.Untold place deep same = absurd (cc)
+  from_entries inside.Skipped place deep same = absurd (cc)
 
   pub from_options : (own : Context) → context_at own ≡ inside.Options → own ≡ inside.Options
   from_options inside.Options same = refl
@@ -113,6 +118,7 @@ module _ (part whole : List File) (at : ℕ → ℕ) (own_paths : HaveOwnPaths p
   from_options (inside.Enum own) same = absurd (cc)
   from_options inside.Scalar same = absurd (cc)
   from_options inside.Untold same = absurd (cc)
+  from_options inside.Skipped same = absurd (cc)
 
   pub from_untold : (own : Context) → context_at own ≡ inside.Untold → own ≡ inside.Untold
   from_untold inside.Options same = absurd (cc)
@@ -121,6 +127,16 @@ module _ (part whole : List File) (at : ℕ → ℕ) (own_paths : HaveOwnPaths p
   from_untold (inside.Enum own) same = absurd (cc)
   from_untold inside.Scalar same = absurd (cc)
   from_untold inside.Untold same = refl
+  from_untold inside.Skipped same = absurd (cc)
+
+  pub from_skipped : (own : Context) → context_at own ≡ inside.Skipped → own ≡ inside.Skipped
+  from_skipped inside.Options same = absurd (cc)
+  from_skipped (inside.Message own) same = absurd (cc)
+  from_skipped (inside.Entries own) same = absurd (cc)
+  from_skipped (inside.Enum own) same = absurd (cc)
+  from_skipped inside.Scalar same = absurd (cc)
+  from_skipped inside.Untold same = absurd (cc)
+  from_skipped inside.Skipped same = refl
 
   pub from_scalar : (own : Context) → context_at own ≡ inside.Scalar → own ≡ inside.Scalar
   from_scalar inside.Options same = absurd (cc)
@@ -129,6 +145,7 @@ module _ (part whole : List File) (at : ℕ → ℕ) (own_paths : HaveOwnPaths p
   from_scalar (inside.Enum own) same = absurd (cc)
   from_scalar inside.Scalar same = refl
   from_scalar inside.Untold same = absurd (cc)
+  from_scalar inside.Skipped same = absurd (cc)
 
   -- ---- what types and fields give
 

@@ -3,6 +3,7 @@ use Rattle.std.proofs.Common.{◌≡◌, ◌∙◌, ◌↔◌, ℕ, Bool, List, 
 use Rattle.std.proofs.Common.{subst}
 use Rattle.proto_decl.specs.Names.{dotted}
 use Rattle.proto_decl.specs.declared.declaration.DeclarationKind.TheVariants.{Message, Enum, Value as EnumValue, Field}
+use Rattle.proto_options.specs.declared.messages.MessageClause.TheVariants as clauses
 use Rattle.proto_options.specs.declared.names.OptionName.{OptionName}
 use Rattle.proto_options.specs.declared.names.OptionRole.{OptionRole}
 use Rattle.proto_options.specs.declared.names.OptionRole.TheVariants as role
@@ -18,30 +19,33 @@ use Rattle.option_link.specs.declared.contexts.Context.TheVariants as inside
 use Rattle.option_link.specs.declared.facts.OptionFacts.{OptionFacts}
 use Rattle.option_link.specs.declared.place.DeclaredPlace.{DeclaredPlace}
 use Rattle.option_link.specs.Places.{StandsAs, place_at}
-use Rattle.option_link.specs.Fields.{FieldGives, IsField, IsFieldOf, IsOwnField, IsOwnGroup, ValueGives}
+use Rattle.option_link.specs.Fields.{FieldGives, IsField, IsFieldOf, IsFirstItem, IsOwnField, IsOwnGroup, ValueGives}
 use Rattle.option_link.specs.Lookups.{LooksUp, is_field}
 use Rattle.option_link.specs.Lookups.LooksUp.{absolute, single, compound}
-use Rattle.option_link.specs.Contexts.{Leads, LookedUpFrom, NamesAs, PlaceGives, Root, StandsIn}
-use Rattle.option_link.specs.Contexts.{options_message}
+use Rattle.option_link.specs.Contexts.{IsReserved, Leads, LookedUpFrom, NamesAs, NamesIn, PlaceGives, Root, StandsIn}
+use Rattle.option_link.specs.Contexts.{behind_spelled, options_message}
 use Rattle.option_link.specs.Contexts.LookedUpFrom.{part as looked_part, in_braces as looked_in_braces}
 use Rattle.option_link.specs.Contexts.NamesAs.{field as names_field, group as names_group}
-use Rattle.option_link.specs.Contexts.NamesAs.{extension as names_extension, packed as names_packed}
-use Rattle.option_link.specs.Contexts.NamesAs.{value as names_value}
+use Rattle.option_link.specs.Contexts.NamesAs.{extension as names_extension, item as names_item}
+use Rattle.option_link.specs.Contexts.NamesAs.{packed as names_packed, value as names_value}
 use Rattle.option_link.specs.Contexts.Root.{taken, options}
 use Rattle.option_link.specs.Contexts.Leads.{named, key, map_value, default, untold, without_message}
+use Rattle.option_link.specs.Contexts.Leads.{reserved, skipped}
 use Rattle.option_link.specs.Contexts.StandsIn.{first, further}
 use Rattle.option_link.specs.Parts.{AreKnownAlike}
+use Rattle.option_link.specs.Said.{Says}
+use Rattle.option_link.proofs.NameLemmas.{behind_in}
 use Rattle.option_link.proofs.PartPlaceLemmas.{as_back, as_to, beside_is, field_back, field_of_back, field_of_to}
 use Rattle.option_link.proofs.PartPlaceLemmas.{field_to}
 use Rattle.option_link.proofs.PartPlaceLemmas.{own_field_back, own_field_to, own_group_back, own_group_to}
-use Rattle.option_link.proofs.PartPlaceLemmas.{owner_deep, placed_in}
+use Rattle.option_link.proofs.PartPlaceLemmas.{owner_deep, placed_in, says_back, says_to}
 use Rattle.option_link.proofs.PartContextLemmas.{ContextIn, Deep, IsDeepIn, Placed, context_at, to, extended_back}
 use Rattle.option_link.proofs.PartContextLemmas.{extended_to}
 use Rattle.option_link.proofs.PartContextLemmas.{field_gives_back, field_gives_to, fields_back, fields_to, from_entries}
-use Rattle.option_link.proofs.PartContextLemmas.{from_enum, from_message, from_options, from_untold}
+use Rattle.option_link.proofs.PartContextLemmas.{from_enum, from_message, from_options, from_skipped, from_untold}
 use Rattle.option_link.proofs.PartContextLemmas.{lacks_back, lacks_to, place_gives_back, place_gives_to}
-use Rattle.option_link.proofs.PartContextLemmas.{value_gives_back}
-use Rattle.option_link.proofs.PartContextLemmas.{value_gives_to}
+use Rattle.option_link.proofs.PartContextLemmas.{value_gives_back, value_gives_to}
+use Rattle.option_link.proofs.PartItemLemmas.{first_item_back, first_item_to, looks_for}
 
 -- what is known alike is looked up alike
 looks_up : (files others : List File) (number other : ℕ)
@@ -131,6 +135,23 @@ module _ (part whole : List File) (at : ℕ → ℕ) (own_paths : HaveOwnPaths p
                 (field_of_to part whole at own_paths are known theirs alike message field in_file is),
             in_file,
           )
+      names_to _ _ _ within (names_item {set = set} {type = type}
+          {field = field} {from = from} {full_name = full_name} words braces says looked looks unknown owned stands full
+          least) =
+          let in_file = owner_deep part whole at own_paths are known theirs alike k type.file deep owned in (
+            names_item words braces
+                (says_to part whole at own_paths are known theirs alike set clauses.IsMessageSet says)
+                (looked_to option number set from looked)
+                (looks_for part whole k (at k) (known_in_whole part whole at own_paths are k deep.file deep.stands
+                all_seen) looks)
+                (λ knows. unknown ((known_in_whole part whole at own_paths are k deep.file deep.stands all_seen is_field
+                full_name).1 knows))
+                (owner_in_whole part whole at own_paths are k deep.file deep.stands all_seen is_message full_name
+                type.file owned)
+                (as_to part whole at own_paths are known theirs alike type stands) full
+                (first_item_to part whole at own_paths are known theirs alike set type within in_file field least),
+            subst IsWithinFile (sym least.is.member.same_file) in_file,
+          )
       names_to _ _ _ within (names_packed {any = any}
           {message = message} {words = parts} words is_any any_full owned stands full) = (
             names_packed words (as_to part whole at own_paths are known theirs alike any is_any) any_full
@@ -201,6 +222,37 @@ module _ (part whole : List File) (at : ℕ → ℕ) (own_paths : HaveOwnPaths p
                 (subst (λ p. StandsAs whole Field p declaration) (sym is_there) stands))
                 full of.holds;
           }
+      names_back own within (names_item {set = set} {type = type}
+          {field = field} {from = start} {full_name = full_name} {declaration = declaration} words braces says looked
+          looks unknown owned stands full least) same =
+          let from = from_message part whole at own_paths are known theirs alike own set within same in
+          let owner = owner_in_part part whole at own_paths are k deep.file deep.stands all_seen is_message full_name
+          type.file owned in
+          let its = place_at owner.0.number type.index in
+          let type_is = placed_in part whole at own_paths are known theirs alike owner.0 type refl in
+          let in_file = owner_deep part whole at own_paths are known theirs alike k owner.0.number deep owner.1 in
+          let moved = subst (λ s. IsFirstItem whole theirs s (there its) field) (sym from.same)
+          (subst (λ t. IsFirstItem whole theirs set t field) (sym type_is) least) in
+          let both = λ (admits : NameKind → Bool) (word : List ℕ).
+          known_in_whole part whole at own_paths are k deep.file deep.stands all_seen admits word in
+          let item = place_at owner.0.number field.index in
+          record {
+            own = item;
+            same = beside_is part whole at own_paths are known theirs alike its field moved.is.member.same_file;
+            deep = in_file;
+            holds = subst (λ c. NamesAs part known k text option number name role.Extension c item) (sym from.is)
+                (names_item words braces
+                (says_back part whole at own_paths are known theirs alike from.place from.deep.file from.deep.stands
+                clauses.IsMessageSet (subst (λ m. Says whole theirs m clauses.IsMessageSet) (sym from.same) says))
+                (looked_back option number from.place from.deep start
+                (subst (λ m. LookedUpFrom whole option number m start) (sym from.same) looked))
+                (looks_for whole part (at k) k (λ admits word. ((both admits word).1, (both admits word).0)) looks)
+                (λ knows. unknown ((both is_field full_name).0 knows)) owner.1
+                (as_back part whole at own_paths are known theirs alike its in_file.file in_file.stands
+                (subst (λ p. StandsAs whole Message p declaration) (sym type_is) stands)) full
+                (first_item_back part whole at own_paths are known theirs alike from.place its from.deep in_file field
+                moved));
+          }
       names_back own within (names_packed {any = any}
           {message = message} {words = parts} {outer = outer} {inner = inner} words is_any any_full owned stands
           full) same =
@@ -240,6 +292,54 @@ module _ (part whole : List File) (at : ℕ → ℕ) (own_paths : HaveOwnPaths p
                 (subst (λ p. StandsAs whole EnumValue p inner) (sym is_there) stands)) refl full step);
           }
 
+      -- ---- how much of a full name comes behind what is spelled
+
+      pub behind_to : (role : OptionRole) (context : Context) (place : DeclaredPlace) (within : IsWithin context)
+          (names : NamesAs part known k text option number name role context place)
+          → behind_spelled (names_to role context place within names).0 ≡ behind_spelled names
+      unfolding names_to
+      behind_to _ context _ within (names_field words has is braces) = refl
+      behind_to _ context _ within (names_group words has braces is) = refl
+      behind_to _ context _ within (names_extension words may looked looks owned stands full is) = refl
+      behind_to _ _ _ within (names_item words braces says looked looks unknown owned stands full least) = refl
+      behind_to _ _ _ within (names_packed words is_any any_full owned stands full) = refl
+      behind_to _ _ _ within (names_value words is_enum around stands one_file full step) = refl
+
+      pub behind_back : (own : Context) (within : IsWithin own) {role : OptionRole} {context : Context}
+          {place : DeclaredPlace} (names : NamesAs whole theirs (at k) text option number name role context place)
+          (same : context_there own ≡ context)
+          → behind_spelled (names_back own within names same).holds ≡ behind_spelled names
+      behind_back own within {role = role} {context = context} {place = place} names same =
+          let its = names_back own within names same in
+          sym (behind_to role own its.own within its.holds)
+          ∙ behind_in whole theirs (at k) text option number name role (context_there own) context same
+          (there its.own) place (names_to role own its.own within its.holds).0 names
+
+      -- ---- names that the message reserves
+
+      pub reserved_to : (message : DeclaredPlace) → IsReserved part known text option number name message
+          → IsReserved whole theirs text option number name (there message)
+      reserved_to message is = record {
+        plain = is.plain;
+        braces = is.braces;
+        word = is.word;
+        is = is.is;
+        reserves = says_to part whole at own_paths are known theirs alike message (clauses.Reserves is.word)
+            is.reserves;
+      }
+
+      pub reserved_back : (message : DeclaredPlace) → IsWithinFile message.file
+          → IsReserved whole theirs text option number name (there message)
+          → IsReserved part known text option number name message
+      reserved_back message deep is = record {
+        plain = is.plain;
+        braces = is.braces;
+        word = is.word;
+        is = is.is;
+        reserves = says_back part whole at own_paths are known theirs alike message deep.file deep.stands
+            (clauses.Reserves is.word) is.reserves;
+      }
+
       -- ---- what belongs to a name
 
       leads_to : (outer inner : Context) → IsWithin outer
@@ -269,6 +369,12 @@ module _ (part whole : List File) (at : ℕ → ℕ) (own_paths : HaveOwnPaths p
             lacks),
         tt,
       )
+      leads_to _ _ within (reserved {message = message} is never) = (
+        reserved (reserved_to message is) (λ place names.
+            let its = names_back (inside.Message message) within names refl in never its.own its.holds),
+        tt,
+      )
+      leads_to _ _ within (skipped) = (skipped, tt)
 
       leads_back : (own : Context) → IsWithin own → {outer inner : Context}
           → Leads whole theirs (at k) text option number name outer inner → context_there own ≡ outer
@@ -330,6 +436,26 @@ module _ (part whole : List File) (at : ℕ → ℕ) (own_paths : HaveOwnPaths p
             (without_message of_field
             (lacks_back part whole at own_paths are known theirs alike k deep described (options_message option.element)
             lacks));
+      }
+      leads_back own within (reserved {message = message} is never) same =
+          let from = from_message part whole at own_paths are known theirs alike own message within same in
+          record {
+            own = inside.Skipped;
+            same = refl;
+            deep = tt;
+            holds = subst (λ c. Leads part known k text option number name c inside.Skipped) (sym from.is)
+                (reserved (reserved_back from.place from.deep
+                (subst (IsReserved whole theirs text option number name) (sym from.same) is))
+                (λ place names. never (there place)
+                (subst (λ m. NamesIn whole theirs (at k) text option number name (inside.Message m) (there place))
+                from.same (names_to name.role (inside.Message from.place) place from.deep names).0)));
+          }
+      leads_back own within (skipped) same = record {
+        own = inside.Skipped;
+        same = refl;
+        deep = tt;
+        holds = subst (λ c. Leads part known k text option number name c inside.Skipped)
+            (sym (from_skipped part whole at own_paths are known theirs alike own same)) skipped;
       }
 
     root_to : (context : Context) → Root text option context → Root text option (context_there context) × IsWithin

@@ -6,6 +6,7 @@ use Rattle.proto_decl.specs.declared.declaration.Declaration.{Declaration}
 use Rattle.proto_decl.specs.declared.declaration.DeclarationKind.{DeclarationKind}
 use Rattle.proto_decl.specs.declared.declaration.DeclarationKind.TheVariants.{Message, Field}
 use Rattle.proto_options.specs.declared.fields.FieldFact.{FieldFact}
+use Rattle.proto_options.specs.declared.messages.MessageClause.{MessageClause}
 use Rattle.proto_visibility.specs.Files.{File, HaveOwnPaths}
 use Rattle.proto_visibility.specs.Knows.{NameKind, IsOwner}
 use Rattle.proto_visibility.specs.Parts.{IsOfPart, IsPart, renumbered}
@@ -15,8 +16,9 @@ use Rattle.proto_link.proofs.PartLemmas.{names_in_part, names_in_whole, one_numb
 use Rattle.option_link.specs.declared.facts.OptionFacts.{OptionFacts}
 use Rattle.option_link.specs.declared.place.DeclaredPlace.{DeclaredPlace}
 use Rattle.option_link.specs.Places.{Stands, StandsAs, place_at}
-use Rattle.option_link.specs.Fields.{IsField, IsFieldOf, IsMember, IsOwnField, IsOwnGroup, TypeAt, behind}
+use Rattle.option_link.specs.Fields.{Extends, IsField, IsFieldOf, IsMember, IsOwnField, IsOwnGroup, TypeAt, behind}
 use Rattle.option_link.specs.Fields.IsFieldOf.{own as own_field, extending}
+use Rattle.option_link.specs.Said.{Says, saying}
 use Rattle.option_link.specs.Parts.{AreKnownAlike}
 
 module _ (part whole : List File) (at : ℕ → ℕ) (own_paths : HaveOwnPaths part) (are : IsPart part whole at)
@@ -102,6 +104,41 @@ module _ (part whole : List File) (at : ℕ → ℕ) (own_paths : HaveOwnPaths p
         listed = subst (λ fields. Contains fields fact) (ap (λ (f : OptionFacts). f.fields) one ∙ sym its.fields)
             is.listed;
         same = is.same;
+      }
+
+  -- ---- what messages say
+
+  pub says_to : (message : DeclaredPlace) (clause : MessageClause) → Says part known message clause
+      → Says whole theirs (moved message) clause
+  says_to message clause is =
+      let there = file_there is.stands in
+      let its = alike message.file there.0 there.1 in
+      let one : is.said.beside ≡ its.own = same_Some is.said.beside its.own (sym is.said.of_file ∙ its.of_own) in
+      record {
+        declaration = is.declaration;
+        stands = stands_to message is.declaration is.stands;
+        said = record {
+          beside = its.other;
+          of_file = its.of_other;
+          listed = subst (λ facts. Contains facts (saying is.declaration.name clause))
+              (ap (λ (f : OptionFacts). f.messages) one ∙ its.messages) is.said.listed;
+        };
+      }
+
+  pub says_back : (message : DeclaredPlace) (file : File) → slice_get part message.file ≡ Some file
+      → (clause : MessageClause) → Says whole theirs (moved message) clause → Says part known message clause
+  says_back message file stands clause is =
+      let its = alike message.file file stands in
+      let one : is.said.beside ≡ its.other = same_Some is.said.beside its.other (sym is.said.of_file ∙ its.of_other) in
+      record {
+        declaration = is.declaration;
+        stands = stands_back message file stands is.declaration is.stands;
+        said = record {
+          beside = its.own;
+          of_file = its.of_own;
+          listed = subst (λ facts. Contains facts (saying is.declaration.name clause))
+              (ap (λ (f : OptionFacts). f.messages) one ∙ sym its.messages) is.said.listed;
+        };
       }
 
   -- ---- types
@@ -275,17 +312,38 @@ module _ (part whole : List File) (at : ℕ → ℕ) (own_paths : HaveOwnPaths p
 
   -- ---- of which message a field is
 
-  pub field_of_to : (message field : DeclaredPlace) → IsDeep field.file → IsFieldOf part known message field
-      → IsFieldOf whole theirs (moved message) (moved field)
-  field_of_to message field deep (own_field {name = name} {fact = fact} plain is) =
-      own_field plain (own_field_to message name field fact is)
-  field_of_to message field deep (extending is) = extending (record {
+  pub extends_to : (message field : DeclaredPlace) → IsDeep field.file → Extends part known message field
+      → Extends whole theirs (moved message) (moved field)
+  extends_to message field deep is = record {
     fact = is.fact;
     is = field_to field is.fact is.is;
     start = is.start;
     extended = is.extended;
     named = type_to field.file is.start deep Message message is.named;
-  })
+  }
+
+  pub extends_back : (message field : DeclaredPlace) → IsDeep field.file → Extends whole theirs message (moved field)
+      → IsPlaced (λ own. Extends part known own field) message
+  extends_back message field deep is =
+      let type = type_back field.file is.start deep Message message is.named in
+      record {
+        own = type.own;
+        same = type.same;
+        deep = type.deep;
+        holds = record {
+          fact = is.fact;
+          is = field_back field deep.file deep.stands is.fact is.is;
+          start = is.start;
+          extended = is.extended;
+          named = type.holds;
+        };
+      }
+
+  pub field_of_to : (message field : DeclaredPlace) → IsDeep field.file → IsFieldOf part known message field
+      → IsFieldOf whole theirs (moved message) (moved field)
+  field_of_to message field deep (own_field {name = name} {fact = fact} plain is) =
+      own_field plain (own_field_to message name field fact is)
+  field_of_to message field deep (extending is) = extending (extends_to message field deep is)
 
   pub field_of_back : (message field : DeclaredPlace) → IsDeep field.file → IsFieldOf whole theirs message (moved field)
       → IsPlaced (λ own. IsFieldOf part known own field) message
@@ -299,16 +357,5 @@ module _ (part whole : List File) (at : ℕ → ℕ) (own_paths : HaveOwnPaths p
             (subst (λ place. IsOwnField whole theirs place name (moved field) fact) (sym same) is));
       }
   field_of_back message field deep (extending is) =
-      let type = type_back field.file is.start deep Message message is.named in
-      record {
-        own = type.own;
-        same = type.same;
-        deep = type.deep;
-        holds = extending (record {
-          fact = is.fact;
-          is = field_back field deep.file deep.stands is.fact is.is;
-          start = is.start;
-          extended = is.extended;
-          named = type.holds;
-        });
-      }
+      let its = extends_back message field deep is in
+      record { own = its.own; same = its.same; deep = its.deep; holds = extending its.holds }

@@ -1,10 +1,11 @@
 -- What options of a source of a part name, and their gaps, as in the whole.
-use Rattle.std.proofs.Common.{◌≡◌, ◌∙◌, ◌↔◌, ℕ, ◌+◌, List, length, map, Some, ap, sym, refl}
-use Rattle.std.proofs.Common.{subst}
+use Rattle.std.proofs.Common.{◌≡◌, ◌∙◌, ◌↔◌, inl, inr, ℕ, ◌+◌, ◌<◌, List, get_or, length, map, Some, ap, sym, refl}
+use Rattle.std.proofs.Common.{subst, arith}
 use Rattle.std.specs.List.{slice_get}
 use Rattle.std.specs.Option.{option_map}
 use Rattle.std.proofs.lemmas.List.{length-map}
-use Rattle.std.proofs.lemmas.Option.{slice_get-map, slice_get_within}
+use Rattle.std.proofs.lemmas.Bool.{cases_lt}
+use Rattle.std.proofs.lemmas.Option.{same_Some, slice_get-get_or, slice_get-map, slice_get_within}
 use Rattle.proto_decl.specs.Names.{prefix_of}
 use Rattle.proto_decl.specs.Facts.{Facts}
 use Rattle.proto_options.specs.declared.names.OptionName.{OptionName}
@@ -13,7 +14,6 @@ use Rattle.proto_visibility.specs.declared.lookup.Entity.{Entity}
 use Rattle.proto_visibility.specs.declared.lookup.Entity.TheVariants.{Declared}
 use Rattle.proto_visibility.specs.Files.{File, HasFacts, HaveOwnPaths, IsSource}
 use Rattle.proto_visibility.specs.Knows.{IsEntityOf}
-use Rattle.proto_visibility.specs.Knows.IsEntityOf.{packaged, declared}
 use Rattle.proto_visibility.specs.Reaches.{HasOptionsIn, ImportsLeadTo, LinksOptions}
 use Rattle.proto_visibility.specs.Reaches as reaches
 use Rattle.proto_visibility.specs.Parts.{HasAllReached, IsOfPart, IsPart, entity_at, renumbered}
@@ -27,26 +27,22 @@ use Rattle.option_link.specs.declared.facts.OptionFacts.{OptionFacts}
 use Rattle.option_link.specs.declared.place.DeclaredPlace.{DeclaredPlace}
 use Rattle.option_link.specs.declared.target.OptionTarget.{OptionTarget}
 use Rattle.option_link.specs.Places.{Stands, place_at}
-use Rattle.option_link.specs.Contexts.{StandsIn}
-use Rattle.option_link.specs.Contexts.{options_message}
+use Rattle.option_link.specs.Contexts.{IsReserved, StandsIn}
+use Rattle.option_link.specs.Contexts.{behind_spelled, options_message}
 use Rattle.option_link.specs.Contexts.Leads.{named}
 use Rattle.option_link.specs.Contexts.StandsIn.{first}
 use Rattle.option_link.specs.OptionNames.{IsGap, IsOptionTarget, LacksTarget, NamesParts, NamesPlace, NeedsNoTarget}
 use Rattle.option_link.specs.OptionNames.NeedsNoTarget.{word as need_word, entry as need_entry, untold as need_untold}
-use Rattle.option_link.specs.OptionNames.NeedsNoTarget.{without_message as need_message}
+use Rattle.option_link.specs.OptionNames.NeedsNoTarget.{without_message as need_message, reserved as need_reserved}
+use Rattle.option_link.specs.OptionNames.NeedsNoTarget.{skipped as need_skipped}
 use Rattle.option_link.specs.Parts.{AreKnownAlike, NamesHere, NamesThere, PartsNameAlike}
 use Rattle.option_link.proofs.PartPlaceLemmas.{stands_back, stands_to}
 use Rattle.option_link.proofs.PartContextLemmas.{ContextIn, Deep, IsDeepIn, Placed, context_at}
-use Rattle.option_link.proofs.PartContextLemmas.{from_entries}
-use Rattle.option_link.proofs.PartContextLemmas.{from_options, from_scalar, from_untold}
+use Rattle.option_link.proofs.PartContextLemmas.{from_entries, from_message}
+use Rattle.option_link.proofs.PartContextLemmas.{from_options, from_scalar, from_skipped, from_untold}
 use Rattle.option_link.proofs.PartContextLemmas.{lacks_back, lacks_to}
-use Rattle.option_link.proofs.PartNameLemmas.{names_back, names_to, stands_in_back, stands_in_to}
-
-declared_is : (at : ℕ → ℕ) {owner index : ℕ} {facts : Facts} {name : List ℕ} {count : ℕ} (part : Entity)
-    → IsEntityOf owner facts name count part → entity_at at part ≡ Declared (at owner) index
-    → part ≡ Declared owner index
-declared_is at _ (packaged prefix) same = absurd (cc)
-declared_is at {owner} _ (declared {index = its} stands full) same = ap (Declared owner) (cc)
+use Rattle.option_link.proofs.PartNameLemmas.{behind_back, behind_to, names_back, names_to, reserved_back, reserved_to}
+use Rattle.option_link.proofs.PartNameLemmas.{stands_in_back, stands_in_to}
 
 module _ (part whole : List File) (at : ℕ → ℕ) (own_paths : HaveOwnPaths part) (are : IsPart part whole at)
     (known theirs : List OptionFacts) (alike : AreKnownAlike part at known theirs) where
@@ -70,9 +66,10 @@ module _ (part whole : List File) (at : ℕ → ℕ) (own_paths : HaveOwnPaths p
 
   -- ---- what the components of a name name
 
-  abbrev parts_to : (name : OptionName) (place : DeclaredPlace) (parts : List Entity) → NamesParts part name place parts
-      → NamesParts whole name (there place) (map (entity_at at) parts)
-  parts_to name place parts is =
+  abbrev parts_to : (name : OptionName) (place : DeclaredPlace) (behind other : ℕ) → other ≡ behind
+      → (parts : List Entity) → NamesParts part name place behind parts
+      → NamesParts whole name (there place) other (map (entity_at at) parts)
+  parts_to name place behind other alike_behind parts is =
       let its = facts_to part whole at (shares part whole at are) place.file is.facts is.known in
       record {
         declaration = is.declaration;
@@ -80,36 +77,54 @@ module _ (part whole : List File) (at : ℕ → ℕ) (own_paths : HaveOwnPaths p
         facts = renumbered its.0 is.facts;
         known = its.1;
         skipped = is.skipped;
-        split = is.split;
+        split = omega (arith, is.split, alike_behind);
         one_each = length-map parts (entity_at at) ∙ is.one_each;
-        named = λ j one stands.
+        named = λ j one stands more.
             let own = from_mapped (entity_at at) parts j one stands in
             subst (IsEntityOf (at place.file) (renumbered its.0 is.facts)
             (prefix_of is.declaration.full_name (is.skipped + j + 1)) (is.skipped + j + 1)) own.2
-            (entity_to at place.file its.0 own.0 (is.named j own.0 own.1));
+            (entity_to at place.file its.0 own.0
+            (is.named j own.0 own.1 (omega (arith, more, length-map parts (entity_at at)))));
         last = λ j ends. slice_get-map (entity_at at) parts j
             ∙ ap (option_map (entity_at at)) (is.last j (ends ∙ length-map parts (entity_at at)));
       }
 
-  record PartsBack (name : OptionName) (own there_is : DeclaredPlace) (parts : List Entity)
-      (is : NamesParts whole name there_is parts) : Type 0 where
+  record PartsBack (name : OptionName) (own there_is : DeclaredPlace) (behind other : ℕ) (parts : List Entity)
+      (is : NamesParts whole name there_is other parts) : Type 0 where
     owns : List Entity
     same : map (entity_at at) owns ≡ parts
-    are_parts : NamesParts part name own owns
+    are_parts : NamesParts part name own behind owns
     one : are_parts.declaration ≡ is.declaration
 
+  -- a part of the name in the part: an entity, or at the end what is declared
+  record IsPartBack (own : DeclaredPlace) (facts : Facts) (name : List ℕ) (skipped size j : ℕ) (one : Entity)
+      : Type 0 where
+    outer : j + 1 < size → IsEntityOf own.file facts (prefix_of name (skipped + j + 1)) (skipped + j + 1) one
+    ends : j + 1 ≡ size → one ≡ Declared own.file own.index
+
   parts_back : (name : OptionName) (own there_is : DeclaredPlace) → IsWithinFile own.file → there own ≡ there_is
-      → (parts : List Entity) (is : NamesParts whole name there_is parts) → PartsBack name own there_is parts is
-  parts_back name own there_is deep same parts is =
+      → (behind other : ℕ) → behind ≡ other → (parts : List Entity) (is : NamesParts whole name there_is other parts)
+      → PartsBack name own there_is behind other parts is
+  parts_back name own there_is deep same behind other alike_behind parts is =
       let number : at own.file ≡ there_is.file = ap (λ (p : DeclaredPlace). p.file) same in
       let its = facts_back part whole at (shares part whole at are) own.file is.facts
       (slice_get_within part own.file deep.file deep.stands)
       (subst (λ n. HasFacts whole n is.facts) (sym number) is.known) in
-      let owns = parts_of at (λ j. IsEntityOf own.file (renumbered its.0 is.facts)
-      (prefix_of is.declaration.full_name (is.skipped + j + 1)) (is.skipped + j + 1)) parts
-      (λ j one stands. entity_back at own.file its.0 one
-      (subst (λ n. IsEntityOf n is.facts (prefix_of is.declaration.full_name (is.skipped + j + 1)) (is.skipped + j + 1)
-      one) (sym number) (is.named j one stands))) in
+      let owns = parts_of at (IsPartBack own (renumbered its.0 is.facts) is.declaration.full_name is.skipped
+      (length parts)) parts (λ j one stands. elim (cases_lt (j + 1) (length parts)) [
+        | inl less ↦ (
+            let back = entity_back at own.file its.0 one
+            (subst (λ n. IsEntityOf n is.facts (prefix_of is.declaration.full_name (is.skipped + j + 1))
+            (is.skipped + j + 1) one) (sym number) (is.named j one stands less)) in
+            (back.0, back.1, record { outer = λ before. back.2; ends = λ end. absurd (omega (arith, less, end)) }))
+        | inr least ↦ (
+            let end : j + 1 ≡ length parts = omega (arith, least, slice_get_within parts j one stands) in (
+              Declared own.file own.index,
+              ap (λ (p : DeclaredPlace). Declared p.file p.index) same
+                  ∙ same_Some (Declared there_is.file there_is.index) one (sym (is.last j end) ∙ stands),
+              record { outer = λ before. absurd (omega (arith, before, end)); ends = λ last. refl },
+            ))
+      ]) in
       let lengths : length owns.0 ≡ length parts = sym (length-map owns.0 (entity_at at)) ∙ ap length owns.1 in
       record {
         owns = owns.0;
@@ -121,14 +136,13 @@ module _ (part whole : List File) (at : ℕ → ℕ) (own_paths : HaveOwnPaths p
           facts = renumbered its.0 is.facts;
           known = its.1;
           skipped = is.skipped;
-          split = is.split;
+          split = omega (arith, is.split, alike_behind);
           one_each = lengths ∙ is.one_each;
-          named = owns.2;
-          last = λ j ends.
-              let from = from_mapped (entity_at at) owns.0 j (Declared (at own.file) own.index)
-              (ap (λ ps. slice_get ps j) owns.1 ∙ (is.last j (ends ∙ lengths)
-              ∙ ap (λ (p : DeclaredPlace). Some (Declared p.file p.index)) (sym same))) in
-              from.1 ∙ ap Some (declared_is at from.0 (owns.2 j from.0 from.1) from.2);
+          named = λ j one stands more. (owns.2 j one stands).outer (omega (arith, more, lengths));
+          last = λ j end.
+              let its_own = Declared own.file own.index in
+              let read = slice_get-get_or owns.0 j its_own (omega (arith, end)) in
+              read ∙ ap Some ((owns.2 j (get_or owns.0 j its_own) read).ends (end ∙ lengths));
         };
         one = refl;
       }
@@ -146,6 +160,15 @@ module _ (part whole : List File) (at : ℕ → ℕ) (own_paths : HaveOwnPaths p
           record { numbered = is.numbered; context = context_there is.context; stands = context.0; names = names.0 },
           names.1,
         )
+
+    place_behind : (number : ℕ) (name : OptionName) (place : DeclaredPlace)
+        (is : NamesPlace part known k text option number name place)
+        → behind_spelled (place_to number name place is).0.names ≡ behind_spelled is.names
+    unfolding place_to
+    place_behind number name place is =
+        behind_to part whole at own_paths are known theirs alike k deep described text option number name name.role
+        is.context place (stands_in_to part whole at own_paths are known theirs alike k deep described text option
+        number is.context is.stands).1 is.names
 
     place_back : (number : ℕ) (name : OptionName) (place : DeclaredPlace)
         → NamesPlace whole theirs (at k) text option number name place
@@ -167,6 +190,16 @@ module _ (part whole : List File) (at : ℕ → ℕ) (own_paths : HaveOwnPaths p
           };
         }
 
+    behind_there : (number : ℕ) (name : OptionName) (place : DeclaredPlace)
+        (is : NamesPlace whole theirs (at k) text option number name place)
+        → behind_spelled (place_back number name place is).holds.names ≡ behind_spelled is.names
+    unfolding place_back
+    behind_there number name place is =
+        let context = stands_in_back part whole at own_paths are known theirs alike k deep described text option number
+        is.context is.stands in
+        behind_back part whole at own_paths are known theirs alike k deep described text option number name context.own
+        context.deep is.names context.same
+
     pub target_to : (target : OptionTarget) (is : IsOptionTarget part known k text option target)
         → NamesThere part whole known theirs at k text option target is
     target_to target is = record {
@@ -174,7 +207,9 @@ module _ (part whole : List File) (at : ℕ → ℕ) (own_paths : HaveOwnPaths p
         name = is.name;
         at = there is.at;
         names = (place_to target.name_number is.name is.at is.names).0;
-        parts = parts_to is.name is.at target.parts is.parts;
+        parts = parts_to is.name is.at (behind_spelled is.names.names)
+            (behind_spelled (place_to target.name_number is.name is.at is.names).0.names)
+            (place_behind target.name_number is.name is.at is.names) target.parts is.parts;
       };
       one = record { name = refl; declaration = refl };
     }
@@ -183,7 +218,9 @@ module _ (part whole : List File) (at : ℕ → ℕ) (own_paths : HaveOwnPaths p
         → NamesHere part whole known theirs at k text option target is
     target_back target is =
         let place = place_back target.name_number is.name is.at is.names in
-        let parts = parts_back is.name place.own is.at place.deep place.same target.parts is.parts in
+        let parts = parts_back is.name place.own is.at place.deep place.same (behind_spelled place.holds.names)
+        (behind_spelled is.names.names) (behind_there target.name_number is.name is.at is.names) target.parts is.parts
+        in
         record {
           own = record { name_number = target.name_number; parts = parts.owns };
           same = λ i. record { name_number = target.name_number; parts = parts.same i };
@@ -214,6 +251,11 @@ module _ (part whole : List File) (at : ℕ → ℕ) (own_paths : HaveOwnPaths p
         (lacks_to part whole at own_paths are known theirs alike k deep described (options_message option.element)
         lacks)
         (in_whole number inside.Options stands)
+    needs_to number name (need_reserved {message = message} is stands) =
+        need_reserved
+        (reserved_to part whole at own_paths are known theirs alike k deep described text option number name message is)
+        (in_whole number (inside.Message message) stands)
+    needs_to number name (need_skipped stands) = need_skipped (in_whole number inside.Skipped stands)
 
     needs_back : (number : ℕ) (name : OptionName) → NeedsNoTarget whole theirs (at k) text option number name
         → NeedsNoTarget part known k text option number name
@@ -236,6 +278,17 @@ module _ (part whole : List File) (at : ℕ → ℕ) (own_paths : HaveOwnPaths p
         lacks)
         (subst (StandsIn part known k text option number)
         (from_options part whole at own_paths are known theirs alike its.own its.same) its.holds)
+    needs_back number name (need_reserved {message = message} is stands) =
+        let its = in_part number (inside.Message message) stands in
+        let from = from_message part whole at own_paths are known theirs alike its.own message its.deep its.same in
+        need_reserved
+        (reserved_back part whole at own_paths are known theirs alike k deep described text option number name
+        from.place from.deep (subst (IsReserved whole theirs text option number name) (sym from.same) is))
+        (subst (StandsIn part known k text option number) from.is its.holds)
+    needs_back number name (need_skipped stands) =
+        let its = in_part number inside.Skipped stands in
+        need_skipped (subst (StandsIn part known k text option number)
+        (from_skipped part whole at own_paths are known theirs alike its.own its.same) its.holds)
 
     without_to : (number : ℕ) (name : OptionName) → LacksTarget part known k text option number name
         → LacksTarget whole theirs (at k) text option number name

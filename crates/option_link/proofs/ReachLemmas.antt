@@ -26,9 +26,10 @@ use Rattle.option_link.specs.Contexts.{HasFieldsOf, Leads, NamesAs, PlaceGives, 
 use Rattle.option_link.specs.Contexts.HasFieldsOf.{options as fields-options, message as fields-message}
 use Rattle.option_link.specs.Contexts.Leads.{named as leads-named, key as leads-key, map_value as leads-map_value}
 use Rattle.option_link.specs.Contexts.Leads.{default as leads-default, untold as leads-untold}
-use Rattle.option_link.specs.Contexts.Leads.{without_message as leads-without_message}
+use Rattle.option_link.specs.Contexts.Leads.{without_message as leads-without_message, reserved as leads-reserved}
+use Rattle.option_link.specs.Contexts.Leads.{skipped as leads-skipped}
 use Rattle.option_link.specs.Contexts.NamesAs.{field as names-field, group as names-group, extension as names-extension}
-use Rattle.option_link.specs.Contexts.NamesAs.{packed as names-packed, value as names-value}
+use Rattle.option_link.specs.Contexts.NamesAs.{item as names-item, packed as names-packed, value as names-value}
 use Rattle.option_link.specs.Contexts.PlaceGives.{field as gives-field, extension as gives-extension}
 use Rattle.option_link.specs.Contexts.PlaceGives.{message as gives-message}
 use Rattle.option_link.specs.Contexts.Root.{taken as root-taken, options as root-options}
@@ -57,6 +58,7 @@ module _ (files : List File) (source : ℕ) (is : IsSource files source) (links 
   ContextIn inside.Options = Unit {0}
   ContextIn inside.Scalar = Unit {0}
   ContextIn inside.Untold = Unit {0}
+  ContextIn inside.Skipped = Unit {0}
 
   -- ---- what fields give
 
@@ -102,6 +104,8 @@ module _ (files : List File) (source : ℕ) (is : IsSource files source) (links 
           subst In (sym x.member.same_file) (fields_in context m there fields)
       names_in _ context at there (names-extension has may from up owner stands named of_it) =
           (reaches_seen owner.gives.sees, owner.present)
+      names_in _ _ at there (names-item has braces says from up unknown owner stands named first) =
+          subst In (sym first.is.member.same_file) (reaches_seen owner.gives.sees, owner.present)
       names_in _ _ at there (names-packed has any called owner stands named) =
           (reaches_seen owner.gives.sees, owner.present)
       names_in _ _ at there (names-value has of_enum around stands in_file named path) = subst In (sym in_file) there
@@ -126,6 +130,8 @@ module _ (files : List File) (source : ℕ) (is : IsSource files source) (links 
           kind_in field gives.fact.kind inner (subst In (sym in_file) own) gives.gives
       leads_in _ _ there (leads-untold not acting) = tt
       leads_in _ _ there (leads-without_message acting lacks) = tt
+      leads_in _ _ there (leads-reserved x nothing) = tt
+      leads_in _ _ there leads-skipped = tt
 
     root_in : (context : Context) → Root text option context → ContextIn context
     root_in _ (root-taken x) = tt

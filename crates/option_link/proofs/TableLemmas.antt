@@ -17,42 +17,42 @@ use Rattle.proto_visibility.proofs.FileFactLemmas.{one_list_of_facts}
 use Rattle.option_link.specs.declared.place.DeclaredPlace.{DeclaredPlace}
 use Rattle.option_link.specs.declared.table.Listed.{Listed}
 use Rattle.option_link.specs.Places.{Stands, place_at}
-use Rattle.option_link.specs.Tables.{Adds, AddsUpTo, AreNear, HasName, Lists, listed_at}
+use Rattle.option_link.specs.Tables.{Adds, AddsUpTo, AreNear, HasName, Lists, listed_at, listed_by, name_hash}
 use Rattle.option_link.proofs.PlaceLemmas.{same_declaration}
 
 -- ---- what is listed
 
-pub adds_none : (file : ℕ) (declarations : List Declaration) (listed : List Listed)
-    → AddsUpTo file declarations 0 listed listed
-adds_none file declarations listed = record {
+pub adds_none : {A : Type 0} (hash_of : A → ℕ) (file : ℕ) (each : List A) (listed : List Listed)
+    → AddsUpTo hash_of file each 0 listed listed
+adds_none hash_of file each listed = record {
   kept = λ one there. there;
   added = λ index d before at. absurd (omega (arith, before));
 }
 
-pub adds_more : (file : ℕ) (declarations : List Declaration) (index : ℕ) (d : Declaration)
-    (old now new : List Listed) (hash : ℕ) → slice_get declarations index ≡ Some d → hash ≡ hash64 d.full_name
+pub adds_more : {A : Type 0} (hash_of : A → ℕ) (file : ℕ) (each : List A) (index : ℕ) (d : A)
+    (old now new : List Listed) (hash : ℕ) → slice_get each index ≡ Some d → hash ≡ hash_of d
     → new ≡ now ++ record { hash64 = hash; place = place_at file index } ∷ []
-    → AddsUpTo file declarations index old now → AddsUpTo file declarations (index + 1) old new
-adds_more file declarations index d old now new hash at is made so_far =
+    → AddsUpTo hash_of file each index old now → AddsUpTo hash_of file each (index + 1) old new
+adds_more hash_of file each index d old now new hash at is made so_far =
     let one : Listed = record { hash64 = hash; place = place_at file index } in
-    subst (AddsUpTo file declarations (index + 1) old) (sym made) (record {
+    subst (AddsUpTo hash_of file each (index + 1) old) (sym made) (record {
       kept = λ other there. Contains-append_left now (one ∷ []) other (so_far.kept other there);
       added = λ k e before there. elim (cases_lt k index) [
-        | inl less ↦ Contains-append_left now (one ∷ []) (listed_at (place_at file k) e) (so_far.added k e less there)
+        | inl less ↦ Contains-append_left now (one ∷ []) (listed_by hash_of (place_at file k) e)
+            (so_far.added k e less there)
         | inr last ↦ (
             let here : index ≡ k = omega (arith, before, last) in
-            let same : d ≡ e = same_Some d e (sym at ∙ (ap (slice_get declarations) here ∙ there)) in
-            let listed : one ≡ listed_at (place_at file k) e =
-            ap (λ (h : ℕ). record { hash64 = h; place = place_at file index })
-            (is ∙ ap (λ (x : Declaration). hash64 x.full_name) same)
-            ∙ ap (λ (n : ℕ). listed_at (place_at file n) e) here in
+            let same : d ≡ e = same_Some d e (sym at ∙ (ap (slice_get each) here ∙ there)) in
+            let listed : one ≡ listed_by hash_of (place_at file k) e =
+            ap (λ (h : ℕ). record { hash64 = h; place = place_at file index }) (is ∙ ap hash_of same)
+            ∙ ap (λ (n : ℕ). listed_by hash_of (place_at file n) e) here in
             subst (Contains (now ++ one ∷ [])) listed (Contains-push now one))
       ];
     })
 
 pub adds_all : (files : List File) (file : ℕ) (facts : Facts) (declarations : List Declaration)
     (old new : List Listed) → HasFacts files file facts → declarations ≡ facts.declarations
-    → AddsUpTo file declarations (length declarations) old new → Adds files file old new
+    → AddsUpTo name_hash file declarations (length declarations) old new → Adds files file old new
 adds_all files file facts declarations old new has are all = record {
   kept = all.kept;
   added = λ index d stands. (

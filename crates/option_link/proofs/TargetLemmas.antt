@@ -3,6 +3,7 @@ use Rattle.std.proofs.Common.{◌≡◌, ◌⊎◌, inl, inr, ℕ, ◌+◌, ◌<
 use Rattle.std.proofs.Common.{refl, ap, sym, ◌∙◌, subst, arith}
 use Rattle.std.specs.List.{slice_get}
 use Rattle.std.proofs.lemmas.Option.{same_Some, slice_get-get_or}
+use Rattle.std.proofs.lemmas.Bool.{cases_lt}
 use Rattle.std.proofs.lemmas.List.{same_lists}
 use Rattle.proto_lex.specs.declared.span.Span.{Span}
 use Rattle.proto_lex.specs.Lexed.{part_of}
@@ -27,12 +28,12 @@ use Rattle.option_link.specs.declared.facts.OptionFacts.{OptionFacts}
 use Rattle.option_link.specs.declared.place.DeclaredPlace.{DeclaredPlace}
 use Rattle.option_link.specs.declared.target.OptionTarget.{OptionTarget}
 use Rattle.option_link.specs.Fields.{AreInOrder}
-use Rattle.option_link.specs.Contexts.{HasWords, NamesAs, StandsIn}
+use Rattle.option_link.specs.Contexts.{HasWords, NamesAs, StandsIn, behind_spelled}
 use Rattle.option_link.specs.Contexts.NamesAs.{field as names-field, group as names-group, extension as names-extension}
-use Rattle.option_link.specs.Contexts.NamesAs.{packed as names-packed, value as names-value}
+use Rattle.option_link.specs.Contexts.NamesAs.{item as names-item, packed as names-packed, value as names-value}
 use Rattle.option_link.specs.OptionNames.{IsOptionTarget, NamesParts}
 use Rattle.option_link.proofs.ContextLemmas.{one_context}
-use Rattle.option_link.proofs.NameLemmas.{one_named}
+use Rattle.option_link.proofs.NameLemmas.{one_behind, one_named}
 use Rattle.option_link.proofs.PlaceLemmas.{same_declaration}
 
 mapped_one : (text : List ℕ) (spans : List Span) (word : List ℕ) → map (part_of text) spans ≡ word ∷ []
@@ -63,6 +64,10 @@ by_component_or_reachable files known source is text option number name _ contex
 by_component_or_reachable files known source is text option number name _ context at
     (names-extension words may from up owns stands named of_it) = inr (reached is (reaches_seen owns.gives.sees) owns.present)
 by_component_or_reachable files known source is text option number name _ _ at
+    (names-item words braces says from up unknown owns stands named first) =
+    inr (subst (IsReachable files) (sym first.is.member.same_file)
+    (reached is (reaches_seen owns.gives.sees) owns.present))
+by_component_or_reachable files known source is text option number name _ _ at
     (names-packed words any called owns stands named) = inr (reached is (reaches_seen owns.gives.sees) owns.present)
 by_component_or_reachable files known source is text option number name _ _ at
     (names-value {word = w} words of_enum around stands in_file named path) = inl (one_component text name w words)
@@ -71,9 +76,9 @@ module _ (files : List File) (origins : HaveOrigins files)
     (names : (facts : Facts) → AreOfSomeFile facts → NamesInOrder facts.declarations)
     (packages : (facts : Facts) → AreOfSomeFile facts → PackageInOrder facts) where
   pub parts_alike : (duplicates : Duplicates) → NoClash duplicates files → (name : OptionName) (at : DeclaredPlace)
-      (a b : List Entity) → (length name.name.components ≡ 1) ⊎ IsReachable files at.file
-      → NamesParts files name at a → NamesParts files name at b → a ≡ b
-  parts_alike duplicates clear name at a b which x y = same_lists a b (x.one_each ∙ sym y.one_each) each
+      (behind : ℕ) (a b : List Entity) → (length name.name.components ≡ 1) ⊎ IsReachable files at.file
+      → NamesParts files name at behind a → NamesParts files name at behind b → a ≡ b
+  parts_alike duplicates clear name at behind a b which x y = same_lists a b (x.one_each ∙ sym y.one_each) each
     where
       is_last : (k : ℕ) (d : Entity) → k < length a → k + 1 ≡ length a → get_or a k d ≡ get_or b k d
       is_last k d within last =
@@ -85,8 +90,9 @@ module _ (files : List File) (origins : HaveOrigins files)
             y.one_each,
           ))) ∙ slice_get-get_or b k d (omega (arith, within, x.one_each, y.one_each)))))
 
-      by_entity : IsReachable files at.file → (k : ℕ) (d : Entity) → k < length a → get_or a k d ≡ get_or b k d
-      by_entity reachable k d within =
+      by_entity : IsReachable files at.file → (k : ℕ) (d : Entity) → k < length a → k + 1 < length a
+          → get_or a k d ≡ get_or b k d
+      by_entity reachable k d within outer =
           let its = slice_get-get_or a k d within in
           let other = slice_get-get_or b k d (omega (arith, within, x.one_each, y.one_each)) in
           let declaration = same_declaration files at x.declaration y.declaration x.stands y.stands in
@@ -95,17 +101,20 @@ module _ (files : List File) (origins : HaveOrigins files)
           omega (arith, x.split, y.split, ap (λ (e : Declaration). length (components_of e.full_name)) declaration) in
           let Is : Facts → Declaration → ℕ → Type 0 = λ fs e s.
           IsEntityOf at.file fs (prefix_of e.full_name (s + k + 1)) (s + k + 1) (get_or a k d) in
-          let by_facts = subst (λ fs. Is fs x.declaration x.skipped) facts (x.named k (get_or a k d) its) in
+          let by_facts = subst (λ fs. Is fs x.declaration x.skipped) facts (x.named k (get_or a k d) its outer) in
           let by_name = subst (λ e. Is y.facts e x.skipped) declaration by_facts in
           let moved = subst (Is y.facts y.declaration) skipped by_name in
           one_entity files origins names packages duplicates clear at.file reachable y.facts y.known
           (prefix_of y.declaration.full_name (y.skipped + k + 1)) (y.skipped + k + 1) (get_or a k d) (get_or b k d)
-          moved (y.named k (get_or b k d) other)
+          moved (y.named k (get_or b k d) other (omega (arith, outer, x.one_each, y.one_each)))
 
       each : (k : ℕ) (d : Entity) → k < length a → get_or a k d ≡ get_or b k d
       each k d within = elim which [
         | inl one ↦ is_last k d within (omega (arith, within, one, x.one_each))
-        | inr reachable ↦ by_entity reachable k d within
+        | inr reachable ↦ elim (cases_lt (k + 1) (length a)) [
+          | inl outer ↦ by_entity reachable k d within outer
+          | inr last ↦ is_last k d within (omega (arith, within, last))
+        ]
       ]
 
   module _ (known : List OptionFacts) (order : AreInOrder known)
@@ -124,14 +133,19 @@ module _ (files : List File) (origins : HaveOrigins files)
         let context = one_context files origins known order names uses filled source text option b.name_number
         p.context q.context stands q.stands in
         let Is : ℕ → OptionName → Context → Type 0 = λ n o c.
-        NamesAs files known source text option n o o.role c x.at in
-        let by_number = subst (λ n. Is n x.name p.context) same p.names in
+        (its : NamesAs files known source text option n o o.role c x.at)
+        × (behind_spelled its ≡ behind_spelled p.names) in
+        let by_number = subst (λ n. Is n x.name p.context) same (p.names, refl) in
         let by_name = subst (λ o. Is b.name_number o p.context) name by_number in
         let moved = subst (Is b.name_number y.name) context by_name in
         let at = one_named files known source text option b.name_number y.name y.name.role q.context x.at y.at
-        moved q.names in
-        let parts = subst (λ (place : DeclaredPlace). NamesParts files y.name place a.parts) at
-        (subst (λ (o : OptionName). NamesParts files o x.at a.parts) name x.parts) in
-        one_OptionTarget a b same (parts_alike duplicates clear y.name y.at a.parts b.parts
+        moved.0 q.names in
+        let behind : behind_spelled p.names ≡ behind_spelled q.names = sym moved.1
+        ∙ one_behind files known source text option b.name_number y.name y.name.role q.context x.at y.at moved.0 q.names
+        in
+        let parts = subst (λ (place : DeclaredPlace). NamesParts files y.name place (behind_spelled q.names) a.parts) at
+        (subst (λ (o : OptionName). NamesParts files o x.at (behind_spelled q.names) a.parts) name
+        (subst (λ (n : ℕ). NamesParts files x.name x.at n a.parts) behind x.parts)) in
+        one_OptionTarget a b same (parts_alike duplicates clear y.name y.at (behind_spelled q.names) a.parts b.parts
         (by_component_or_reachable files known source is text option b.name_number y.name y.name.role q.context y.at
         q.names) parts y.parts)

@@ -1,36 +1,34 @@
 -- What a name names by its role, from what is found.
-use Rattle.std.proofs.Common.{◌≡◌, ℕ, ◌≤◌, true, leb, List, [], ◌∷◌, ◌++◌, refl, ap}
+use Rattle.std.proofs.Common.{◌≡◌, ℕ, ◌≤◌, true, leb, List, [], ◌∷◌, ◌++◌, ap}
 use Rattle.std.proofs.Common.{◌∙◌, subst, arith}
-use Rattle.std.proofs.lemmas.Bool.{leb-true, false≢true}
+use Rattle.std.proofs.lemmas.Bool.{leb-true}
 use Rattle.std.proofs.lemmas.Bool.Decides.{nat_tests}
 use Rattle.proto_decl.specs.Names.{dotted, qualified, IsAround}
 use Rattle.proto_decl.specs.declared.declaration.Declaration.{Declaration}
-use Rattle.proto_decl.specs.declared.declaration.DeclarationKind.{DeclarationKind}
-use Rattle.proto_decl.specs.declared.declaration.DeclarationKind.TheVariants.{Message, Enum, Service, Field, Oneof}
-use Rattle.proto_decl.specs.declared.declaration.DeclarationKind.TheVariants.{Value, Method}
+use Rattle.proto_decl.specs.declared.declaration.DeclarationKind.TheVariants.{Message, Enum}
+use Rattle.proto_decl.specs.declared.declaration.DeclarationKind.TheVariants.{Value}
 use Rattle.proto_options.specs.declared.names.OptionName.{OptionName}
 use Rattle.proto_options.specs.declared.names.OptionRole.{OptionRole}
 use Rattle.proto_options.specs.declared.names.OptionRole.TheVariants as role
 use Rattle.proto_options.specs.declared.options.FileOption.{FileOption}
 use Rattle.proto_visibility.specs.Files.{File}
-use Rattle.proto_visibility.specs.Knows.{is_message}
-use Rattle.proto_visibility.specs.Knows.NameKind.{OfDeclaration}
 use Rattle.option_link.specs.declared.contexts.Context.{Context}
 use Rattle.option_link.specs.declared.contexts.Context.TheVariants as inside
 use Rattle.option_link.specs.declared.facts.OptionFacts.{OptionFacts}
 use Rattle.option_link.specs.declared.place.DeclaredPlace.{DeclaredPlace}
 use Rattle.option_link.specs.Places.{StandsAs}
-use Rattle.option_link.specs.Contexts.{HasWords, MayBeExtended, NamesAs}
+use Rattle.option_link.specs.Contexts.{HasWords, NamesAs}
 use Rattle.option_link.specs.Contexts.NamesAs.{field as names-field, group as names-group, extension as names-extension}
-use Rattle.option_link.specs.Contexts.NamesAs.{packed as names-packed, value as names-value}
+use Rattle.option_link.specs.Contexts.NamesAs.{item as names-item, packed as names-packed, value as names-value}
 use Rattle.option_link.specs.Tables.{IsOnly}
 use Rattle.option_link.specs.Found.{IsFieldIn, IsMemberOf, IsPackedIn, IsValueOf, in_braces}
 use Rattle.option_link.specs.Found.IsMemberOf.{plain as member-plain, group as member-group}
 use Rattle.option_link.proofs.NameLemmas.{one_word, same_words}
-use Rattle.option_link.proofs.OnlyLemmas.{owned_kind, stands_in, stands_only}
+use Rattle.option_link.proofs.ExtensionLemmas.{owned_message}
+use Rattle.option_link.proofs.OnlyLemmas.{stands_in, stands_only}
 use Rattle.option_link.proofs.PlaceLemmas.{same_declaration}
 
-braces_by : (option : FileOption) (number : ℕ) → option.setting.parts ≤ number → in_braces option number ≡ true
+pub braces_by : (option : FileOption) (number : ℕ) → option.setting.parts ≤ number → in_braces option number ≡ true
 braces_by option number least = leb_by option.setting.parts number least
   where
     leb_by : (a b : ℕ) → a ≤ b → leb a b ≡ true
@@ -47,6 +45,7 @@ module _ (files : List File) (known : List OptionFacts) (file : ℕ) (text : Lis
   none_wordless _ context none at (names-field {word = w} has fields own not) = none (w ∷ []) has
   none_wordless _ context none at (names-group {word = w} has fields least own) = none (w ∷ []) has
   none_wordless _ context none at (names-extension {words = w} has may from up owns stands is of_it) = none w has
+  none_wordless _ _ none at (names-item {words = w} has braces says from up unknown owns stands is first) = none w has
   none_wordless _ _ none at (names-packed {words = w} has any called owns stands is) = none w has
   none_wordless _ _ none at (names-value {word = w} has of_enum around stands in_file is path) = none (w ∷ []) has
 
@@ -87,33 +86,17 @@ module _ (files : List File) (known : List OptionFacts) (file : ℕ) (text : Lis
             is = member-group (braces_by option number least) own;
           })
 
-    -- ---- names in parentheses or in brackets
-
-    pub extension_none : ((message : DeclaredPlace) → MayBeExtended files option context message → ⊥)
-        → (at : DeclaredPlace) → Names role.Extension context at → ⊥
-    extension_none none at (names-extension {message = m} has may from up owns stands is of_it) = none m may
-
   -- ---- messages that are packed
-
-  message_kind : (kind : DeclarationKind) → is_message (OfDeclaration kind) ≡ true → kind ≡ Message
-  message_kind Message is = refl
-  message_kind Enum is = absurd (false≢true is)
-  message_kind Service is = absurd (false≢true is)
-  message_kind Field is = absurd (false≢true is)
-  message_kind Oneof is = absurd (false≢true is)
-  message_kind Value is = absurd (false≢true is)
-  message_kind Method is = absurd (false≢true is)
 
   module _ (words : List (List ℕ)) (has : HasWords text name words) where
     pub packed_from : (any : DeclaredPlace) → (d : Declaration) × StandsAs files Message any d
         → (message : DeclaredPlace) → IsPackedIn files file any words message
         → Names role.Message (inside.Message any) message
     packed_from any clear message x =
-        let its = owned_kind files file is_message refl (dotted words) message x.owned in
+        let its = owned_message files file (dotted words) message x.owned in
         let called = ap (λ (d : Declaration). d.full_name)
         (same_declaration files any clear.0 x.outer clear.1.stands x.stands) ∙ x.called in
-        names-packed has clear.1 called x.owned.owner
-        (subst (λ (k : DeclarationKind). StandsAs files k message its.0) (message_kind its.0.kind its.2) its.1) its.3
+        names-packed has clear.1 called x.owned.owner its.1 its.2
 
     pub packed_to : (any message : DeclaredPlace) → Names role.Message (inside.Message any) message
         → IsPackedIn files file any words message
@@ -185,6 +168,9 @@ module _ (files : List File) (known : List OptionFacts) (file : ℕ) (text : Lis
   pub elsewhere_none : (context : Context) (at : DeclaredPlace) → Names role.Elsewhere context at → ⊥
   elsewhere_none context at x = elim x [ ]
 
+  pub packs_none_skipped : (at : DeclaredPlace) → Names role.Message inside.Skipped at → ⊥
+  packs_none_skipped at x = elim x [ ]
+
   pub values_none_options : (at : DeclaredPlace) → Names role.Value inside.Options at → ⊥
   values_none_options at x = elim x [ ]
 
@@ -199,3 +185,6 @@ module _ (files : List File) (known : List OptionFacts) (file : ℕ) (text : Lis
 
   pub values_none_untold : (at : DeclaredPlace) → Names role.Value inside.Untold at → ⊥
   values_none_untold at x = elim x [ ]
+
+  pub values_none_skipped : (at : DeclaredPlace) → Names role.Value inside.Skipped at → ⊥
+  values_none_skipped at x = elim x [ ]

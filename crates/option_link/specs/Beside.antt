@@ -5,7 +5,7 @@ use denote.Ref.{Bor}
 
 -- Nothing is known of a file that wasn't read.
 abbrev pub nothing_beside : OptionFacts
-nothing_beside = record { options = []; fields = [] }
+nothing_beside = record { options = []; fields = []; messages = [] }
 
 abbrev pub beside_of : Option (Bor OptionFacts) → OptionFacts
 beside_of None = nothing_beside

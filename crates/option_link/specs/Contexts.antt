@@ -13,20 +13,22 @@ use Rattle.proto_options.specs.declared.elements.Element.{Element}
 use Rattle.proto_options.specs.declared.elements.Element.TheVariants as of_a
 use Rattle.proto_options.specs.declared.fields.FieldFact.{FieldFact}
 use Rattle.proto_options.specs.declared.fields.FieldKind.TheVariants as kinds
+use Rattle.proto_options.specs.declared.messages.MessageClause.TheVariants as clauses
 use Rattle.proto_options.specs.declared.names.OptionName.{OptionName}
 use Rattle.proto_options.specs.declared.names.OptionRole.{OptionRole}
 use Rattle.proto_options.specs.declared.names.OptionRole.TheVariants as role
 use Rattle.proto_options.specs.declared.options.FileOption.{FileOption}
 use Rattle.proto_visibility.specs.Files.{File, IsPresent}
-use Rattle.proto_visibility.specs.Knows.{IsOwner, is_message}
+use Rattle.proto_visibility.specs.Knows.{IsOwner, KnowsAs, is_message}
 use Rattle.proto_visibility.specs.Reaches.{HasOptionsIn}
 use Rattle.option_link.specs.declared.contexts.Context.{Context}
 use Rattle.option_link.specs.declared.contexts.Context.TheVariants as inside
 use Rattle.option_link.specs.declared.facts.OptionFacts.{OptionFacts}
 use Rattle.option_link.specs.declared.place.DeclaredPlace.{DeclaredPlace}
 use Rattle.option_link.specs.Places.{StandsAs}
-use Rattle.option_link.specs.Fields.{IsField, IsOwnField, IsOwnGroup, IsFieldOf, FieldGives, ValueGives}
-use Rattle.option_link.specs.Lookups.{LooksUp, is_field}
+use Rattle.option_link.specs.Fields.{IsField, IsFirstItem, IsOwnField, IsOwnGroup, IsFieldOf, FieldGives, ValueGives}
+use Rattle.option_link.specs.Lookups.{LooksFor, LooksUp, is_field}
+use Rattle.option_link.specs.Said.{Reserves, Says}
 
 -- The message of the options of an element (descriptor.proto).
 abbrev pub options_message : Element → List ℕ
@@ -105,6 +107,15 @@ pub data MayBeExtended (files : List File) (option : FileOption) : Context → D
       → IsPresent files message.file → MayBeExtended files option inside.Options message
   message : {message : DeclaredPlace} → MayBeExtended files option (inside.Message message) message
 
+-- A name in braces that the message reserves.
+pub record IsReserved (files : List File) (known : List OptionFacts) (text : List ℕ) (option : FileOption) (number : ℕ)
+    (name : OptionName) (message : DeclaredPlace) : Type 0 where
+  pub plain : name.role ≡ role.Field
+  pub braces : option.setting.parts ≤ number
+  pub word : List ℕ
+  pub is : HasWords text name (word ∷ [])
+  pub reserves : Reserves files known message word
+
 -- The scope from which a name is looked up: that of the option, or in braces the one around the message.
 pub data LookedUpFrom (files : List File) (option : FileOption) (number : ℕ) (message : DeclaredPlace)
     : List ℕ → Type 0 where
@@ -138,6 +149,17 @@ pub data NamesAs (files : List File) (known : List OptionFacts) (file : ℕ) (te
       → IsOwner files file is_field full_name field.file → StandsAs files Field field declaration
       → declaration.full_name ≡ full_name → IsFieldOf files known message field
       → NamesAs files known file text option number name role.Extension context field
+  -- in brackets in a message set: the extension that a message declares for itself, by the full name of the message;
+  -- but a field of that name comes first
+  item : {set type field : DeclaredPlace} {words : List (List ℕ)} {from full_name : List ℕ}
+      {declaration : Declaration}
+      → HasWords text name words → option.setting.parts ≤ number → Says files known set clauses.IsMessageSet
+      → LookedUpFrom files option number set from
+      → LooksFor files file (is_some name.name.leading_dot) words from full_name
+      → (KnowsAs files file is_field full_name → ⊥)
+      → IsOwner files file is_message full_name type.file → StandsAs files Message type declaration
+      → declaration.full_name ≡ full_name → IsFirstItem files known set type field
+      → NamesAs files known file text option number name role.Extension (inside.Message set) field
   -- what is packed in a google.protobuf.Any: a message by its full name
   packed : {any message : DeclaredPlace} {words : List (List ℕ)} {outer inner : Declaration}
       → HasWords text name words → StandsAs files Message any outer
@@ -156,6 +178,18 @@ pub data NamesAs (files : List File) (known : List OptionFacts) (file : ℕ) (te
 abbrev pub NamesIn : List File → List OptionFacts → (file : ℕ) → (text : List ℕ) → FileOption → (number : ℕ)
     → OptionName → Context → DeclaredPlace → Type 0
 NamesIn files known file text option number name = NamesAs files known file text option number name name.role
+
+-- How many components of the full name of what a name names come behind those that it spells: of an item of a message
+-- set, which is named by its message, its own.
+abbrev pub behind_spelled : {files : List File} {known : List OptionFacts} {file : ℕ} {text : List ℕ}
+    {option : FileOption} {number : ℕ} {name : OptionName} {acting : OptionRole} {context : Context}
+    {at : DeclaredPlace} → NamesAs files known file text option number name acting context at → ℕ
+behind_spelled (NamesAs.field words has is no_group) = 0
+behind_spelled (NamesAs.group words has braces is) = 0
+behind_spelled (NamesAs.extension words may from looks owner stands full is) = 0
+behind_spelled (NamesAs.item words braces says from looks unknown owner stands full is) = 1
+behind_spelled (NamesAs.packed words any called owner stands full) = 0
+behind_spelled (NamesAs.value words type around stands same full path) = 0
 
 -- ---- in what the names are looked up that belong to a name
 
@@ -190,6 +224,11 @@ pub data Leads (files : List File) (known : List OptionFacts) (file : ℕ) (text
   without_message : name.role ≡ role.Field
       → LacksMessage files file (options_message option.element)
       → Leads files known file text option number name inside.Options inside.Untold
+  -- what is given to a name that the message reserves is read past, unless it is a field's all the same
+  reserved : {message : DeclaredPlace} → IsReserved files known text option number name message
+      → ((at : DeclaredPlace) → NamesIn files known file text option number name (inside.Message message) at → ⊥)
+      → Leads files known file text option number name (inside.Message message) inside.Skipped
+  skipped : Leads files known file text option number name inside.Skipped inside.Skipped
 
 -- In what name number so and so of an option is looked up. Where a name names nothing, those that belong to it are
 -- looked up in nothing.

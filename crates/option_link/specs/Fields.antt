@@ -1,6 +1,6 @@
 -- What fields are of, and what is looked up in them, in files that are linked (proto3 specification, "Fields", "Map
 -- field"; proto2 specification, "Group field" and "Extend").
-use Rattle.std.specs.Prelude.{◌≡◌, ℕ, ◌+◌, Option, Some, None, List, map, Contains}
+use Rattle.std.specs.Prelude.{◌≡◌, ◌≤◌, ℕ, ◌+◌, Option, Some, None, List, map, Contains}
 use Rattle.std.specs.List.{slice_get}
 use Rattle.std.specs.List.Sorted.{IsStrictlyIncreasing}
 use Rattle.proto_decl.specs.Names.{qualified, HasNoDot}
@@ -128,3 +128,20 @@ pub record ValueGives (files : List File) (known : List OptionFacts) (field : De
   pub fact : FieldFact
   pub is : IsField files known field fact
   pub gives : MapGives files field fact.kind context
+
+-- ---- message sets
+
+-- An extension of a message set that is declared directly in a message, and is of that message (protoc 3.21,
+-- `AggregateOptionFinder`: "the text format allows MessageSet items to be specified using the type name").
+pub record IsItem (files : List File) (known : List OptionFacts) (set type field : DeclaredPlace) : Type 0 where
+  pub name : List ℕ
+  pub plain : HasNoDot name
+  pub member : IsMember files type Field name field
+  pub extends : Extends files known set field
+  pub of_type : FieldGives files known field (inside.Message type)
+
+-- the first one
+pub record IsFirstItem (files : List File) (known : List OptionFacts) (set type field : DeclaredPlace)
+    : Type 0 where
+  pub is : IsItem files known set type field
+  pub first : (other : DeclaredPlace) → IsItem files known set type other → field.index ≤ other.index

@@ -11,11 +11,13 @@ use Rattle.proto_decl.specs.declared.declaration.DeclarationKind.TheVariants.{Va
 use Rattle.proto_decl.specs.declared.declaration.DeclarationStep.{DeclarationStep}
 use Rattle.proto_options.specs.declared.fields.FieldFact.{FieldFact}
 use Rattle.proto_options.specs.declared.fields.FieldKind.TheVariants as kinds
+use Rattle.proto_options.specs.declared.messages.MessageClause.TheVariants as clauses
 use Rattle.proto_options.specs.declared.names.OptionName.{OptionName}
+use Rattle.proto_options.specs.declared.names.OptionRole.{OptionRole}
 use Rattle.proto_options.specs.declared.names.OptionRole.TheVariants as role
 use Rattle.proto_options.specs.declared.options.FileOption.{FileOption}
 use Rattle.proto_visibility.specs.Files.{File, HasFacts}
-use Rattle.proto_visibility.specs.Knows.{IsEntityOf, is_message}
+use Rattle.proto_visibility.specs.Knows.{IsEntityOf, KnowsAs, is_message}
 use Rattle.proto_visibility.specs.declared.lookup.Entity.{Entity}
 use Rattle.option_link.specs.declared.contexts.Context.{Context}
 use Rattle.option_link.specs.declared.contexts.Context.TheVariants as inside
@@ -24,11 +26,13 @@ use Rattle.option_link.specs.declared.linker.Found.{Found}
 use Rattle.option_link.specs.declared.place.DeclaredPlace.{DeclaredPlace}
 use Rattle.option_link.specs.declared.target.OptionTarget.{OptionTarget}
 use Rattle.option_link.specs.Places.{Stands}
-use Rattle.option_link.specs.Fields.{IsField, IsFieldOf, IsOwnField, IsOwnGroup, FieldGives, ValueGives, behind}
+use Rattle.option_link.specs.Fields.{IsField, IsFieldOf, IsFirstItem, IsOwnField, IsOwnGroup, FieldGives, ValueGives}
+use Rattle.option_link.specs.Fields.{behind}
+use Rattle.option_link.specs.Said.{Says}
 use Rattle.option_link.specs.Typed.{IsMessageAt}
-use Rattle.option_link.specs.Lookups.{LooksUp, is_field}
-use Rattle.option_link.specs.Contexts.{HasFieldsOf, HasWords, IsTaken, LacksMessage, MayBeExtended, Leads}
-use Rattle.option_link.specs.Contexts.{StandsIn, options_message}
+use Rattle.option_link.specs.Lookups.{LooksFor, is_field}
+use Rattle.option_link.specs.Contexts.{HasFieldsOf, HasWords, IsReserved, IsTaken, LacksMessage, Leads, LookedUpFrom}
+use Rattle.option_link.specs.Contexts.{MayBeExtended, NamesAs, StandsIn, behind_spelled, options_message}
 use Rattle.option_link.specs.OptionNames.{IsOptionTarget, IsGap, LacksTarget, NamesParts}
 use Rattle.option_link.specs.Tables.{IsClear, IsOnly, IsOwned}
 
@@ -99,13 +103,49 @@ pub record IsExtensionNamed (files : List File) (known : List OptionFacts) (file
   pub may : MayBeExtended files option context message
   pub is : IsFieldOf files known message field
 
--- the field by the words of the name and the scope from which it is looked up
-pub record IsExtensionFrom (files : List File) (known : List OptionFacts) (file : ℕ) (option : FileOption)
-    (context : Context) (has_dot : Bool) (words : List (List ℕ)) (scope : List ℕ) (field : DeclaredPlace)
-    : Type 0 where
-  pub full_name : List ℕ
-  pub found : LooksUp files file has_dot words scope full_name
-  pub named : IsExtensionNamed files known file option context full_name field
+-- the only full name that a name may have by its words, if there is a message that may be extended
+pub record IsSoughtName (files : List File) (file : ℕ) (option : FileOption) (number : ℕ) (context : Context)
+    (has_dot : Bool) (words : List (List ℕ)) (full_name : List ℕ) : Type 0 where
+  pub from : List ℕ
+  pub looked : (message : DeclaredPlace) → MayBeExtended files option context message
+      → LookedUpFrom files option number message from
+  pub found : LooksFor files file has_dot words from full_name
+
+-- there is none
+abbrev pub LacksSoughtName : List File → (file : ℕ) → FileOption → (number : ℕ) → Context → (has_dot : Bool)
+    → (words : List (List ℕ)) → Type 0
+LacksSoughtName files file option number context has_dot words = (message : DeclaredPlace) (from name : List ℕ)
+    → MayBeExtended files option context message → LookedUpFrom files option number message from
+    → LooksFor files file has_dot words from name → ⊥
+
+-- the message set in which names in braces are looked up
+pub record IsSetIn (files : List File) (known : List OptionFacts) (option : FileOption) (number : ℕ)
+    (context : Context) (set : DeclaredPlace) : Type 0 where
+  pub is : context ≡ inside.Message set
+  pub braces : option.setting.parts ≤ number
+  pub says : Says files known set clauses.IsMessageSet
+
+-- the extension of a set that the message with a full name declares for itself
+pub record IsItemNamed (files : List File) (known : List OptionFacts) (file : ℕ) (set : DeclaredPlace)
+    (full_name : List ℕ) (field : DeclaredPlace) : Type 0 where
+  pub type : DeclaredPlace
+  pub owned : IsOwned files file is_message full_name type
+  pub is : IsFirstItem files known set type field
+
+-- what the only full name names that a name in parentheses or in brackets may have
+pub data IsNamedBy (files : List File) (known : List OptionFacts) (file : ℕ) (option : FileOption) (number : ℕ)
+    (context : Context) (full_name : List ℕ) : DeclaredPlace → Type 0 where
+  extension : {field : DeclaredPlace} → IsExtensionNamed files known file option context full_name field
+      → IsNamedBy files known file option number context full_name field
+  item : {set field : DeclaredPlace} → IsSetIn files known option number context set
+      → (KnowsAs files file is_field full_name → ⊥) → IsItemNamed files known file set full_name field
+      → IsNamedBy files known file option number context full_name field
+
+-- so many components of the full name of what a name names come behind those that it spells
+abbrev pub IsBehind : List File → List OptionFacts → (file : ℕ) → (text : List ℕ) → FileOption → (number : ℕ)
+    → OptionName → OptionRole → Context → (behind : ℕ) → Type 0
+IsBehind files known file text option number name acting context behind = (at : DeclaredPlace)
+    (names : NamesAs files known file text option number name acting context at) → behind_spelled names ≡ behind
 
 -- ---- other names
 
@@ -169,45 +209,57 @@ pub record IsEntryName (text : List ℕ) (name : OptionName) : Type 0 where
   pub which : (word ≡ codes "key") ⊎ (word ≡ codes "value")
 
 pub data LeadsUnnamed (files : List File) (known : List OptionFacts) (file : ℕ) (text : List ℕ) (option : FileOption)
-    (name : OptionName) : (outer inner : Context) → Type 0 where
+    (number : ℕ) (name : OptionName) : (outer inner : Context) → Type 0 where
   key : {holder : DeclaredPlace} → name.role ≡ role.Field → HasWords text name (codes "key" ∷ [])
-      → LeadsUnnamed files known file text option name (inside.Entries holder) inside.Scalar
+      → LeadsUnnamed files known file text option number name (inside.Entries holder) inside.Scalar
   map_value : {holder : DeclaredPlace} {inner : Context}
       → name.role ≡ role.Field → HasWords text name (codes "value" ∷ []) → ValueGives files known holder inner
-      → LeadsUnnamed files known file text option name (inside.Entries holder) inner
+      → LeadsUnnamed files known file text option number name (inside.Entries holder) inner
   default : {place : Span} {inner : Context}
       → IsTaken text (codes "default") option place → name.role ≢ role.Extension
       → IsDefaultGiven files known file place inner
-      → LeadsUnnamed files known file text option name inside.Untold inner
+      → LeadsUnnamed files known file text option number name inside.Untold inner
   untold : ((place : Span) → IsTaken text (codes "default") option place → ⊥) → name.role ≢ role.Extension
-      → LeadsUnnamed files known file text option name inside.Untold inside.Untold
+      → LeadsUnnamed files known file text option number name inside.Untold inside.Untold
   without_message : IsWithoutMessage files file option name
-      → LeadsUnnamed files known file text option name inside.Options inside.Untold
+      → LeadsUnnamed files known file text option number name inside.Options inside.Untold
+  reserved : {message : DeclaredPlace} → IsReserved files known text option number name message
+      → LeadsUnnamed files known file text option number name (inside.Message message) inside.Skipped
+  skipped : LeadsUnnamed files known file text option number name inside.Skipped inside.Skipped
 
-pub data NeedsNoneIn (files : List File) (file : ℕ) (text : List ℕ) (option : FileOption) (name : OptionName)
+pub data NeedsNoneIn (files : List File) (known : List OptionFacts) (file : ℕ) (text : List ℕ) (option : FileOption)
+    (number : ℕ) (name : OptionName)
     : Context → Type 0 where
-  word : name.role ≡ role.Value → NeedsNoneIn files file text option name inside.Scalar
+  word : name.role ≡ role.Value → NeedsNoneIn files known file text option number name inside.Scalar
   entry : {holder : DeclaredPlace} → IsEntryName text name
-      → NeedsNoneIn files file text option name (inside.Entries holder)
-  untold : name.role ≢ role.Extension → NeedsNoneIn files file text option name inside.Untold
-  without_message : IsWithoutMessage files file option name → NeedsNoneIn files file text option name inside.Options
+      → NeedsNoneIn files known file text option number name (inside.Entries holder)
+  untold : name.role ≢ role.Extension → NeedsNoneIn files known file text option number name inside.Untold
+  without_message : IsWithoutMessage files file option name → NeedsNoneIn files known file text option number name
+      inside.Options
+  reserved : {message : DeclaredPlace} → IsReserved files known text option number name message
+      → NeedsNoneIn files known file text option number name (inside.Message message)
+  skipped : NeedsNoneIn files known file text option number name inside.Skipped
 
 -- ---- all names of an option
 
--- what is added to the targets where a name names this, or nothing
-abbrev pub AddsTarget : List File → OptionName → (number : ℕ) → Option DeclaredPlace → (old new : List OptionTarget)
-    → Type 0
-AddsTarget files name number None old new = new ≡ old
-AddsTarget files name number (Some place) old new = (parts : List Entity)
-    × (new ≡ old ++ record { name_number = number; parts = parts } ∷ []) × NamesParts files name place parts
+-- what each component of a name names that names this, or nothing
+abbrev pub ArePartsOf : List File → OptionName → (behind : ℕ) → Option DeclaredPlace → Option (List Entity) → Type 0
+ArePartsOf files name behind None parts = parts ≡ None
+ArePartsOf files name behind (Some place) None = ⊥
+ArePartsOf files name behind (Some place) (Some parts) = NamesParts files name place behind parts
+
+-- what is added to the targets where a name has parts, or none
+abbrev pub AddsParts : (number : ℕ) → Option (List Entity) → (old new : List OptionTarget) → Type 0
+AddsParts number None old new = new ≡ old
+AddsParts number (Some parts) old new = new ≡ old ++ record { name_number = number; parts = parts } ∷ []
 
 -- what each of its components but the last names, where the last one names what is declared here
-pub record NamesOuterParts (files : List File) (name : OptionName) (at : DeclaredPlace) (parts : List Entity)
-    : Type 0 where
+pub record NamesOuterParts (files : List File) (name : OptionName) (at : DeclaredPlace) (behind : ℕ)
+    (parts : List Entity) : Type 0 where
   pub declaration : Declaration
   pub stands : Stands files at declaration
   pub skipped : ℕ
-  pub split : skipped + length name.name.components ≡ length (components_of declaration.full_name)
+  pub split : skipped + length name.name.components + behind ≡ length (components_of declaration.full_name)
   pub one_each : length parts + 1 ≡ length name.name.components
   pub named : (j : ℕ) (part : Entity) → slice_get parts j ≡ Some part
       → IsEntityOf at.file stands.facts (prefix_of declaration.full_name (skipped + j + 1)) (skipped + j + 1) part
@@ -227,12 +279,12 @@ pub record AreOuterEntitiesAt (files : List File) (file : ℕ) (name : List ℕ)
   pub known : HasFacts files file facts
   pub are : AreOuterEntities file facts name count parts
 
--- its components are those at the end of the full name of what stands there
-pub record HasParts (files : List File) (name : OptionName) (place : DeclaredPlace) : Type 0 where
+-- its components are those of the full name of what stands there in front of the last so many
+pub record HasParts (files : List File) (name : OptionName) (behind : ℕ) (place : DeclaredPlace) : Type 0 where
   pub some : 0 < length name.name.components
   pub declaration : Declaration
   pub stands : Stands files place declaration
-  pub few : length name.name.components ≤ length (components_of declaration.full_name)
+  pub few : length name.name.components + behind ≤ length (components_of declaration.full_name)
 
 -- the gap so far, or else this name, if it is one
 abbrev pub first_gap : Option ℕ → (number : ℕ) → (is : Bool) → Option ℕ

@@ -1,6 +1,7 @@
 -- declarations by their places, and what fields are of
 pub mod Places
 pub mod Fields
+pub mod Said
 pub mod Typed
 pub mod Marks
 pub mod Packages

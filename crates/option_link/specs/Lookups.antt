@@ -50,3 +50,15 @@ pub data LooksUp (files : List File) (file : ℕ)
       → KnowsAs files file is_field (qualified scope (dotted (first ∷ (second ∷ others))))
       → LooksUp files file false (first ∷ (second ∷ others)) from
       (qualified scope (dotted (first ∷ (second ∷ others))))
+
+-- The only full name that it may have, be that known or not.
+pub data LooksFor (files : List File) (file : ℕ)
+    : (has_dot : Bool) → (words : List (List ℕ)) → (from name : List ℕ) → Type 0 where
+  absolute : {words : List (List ℕ)} {from : List ℕ} → LooksFor files file true words from (dotted words)
+  single : {word scope from : List ℕ}
+      → Innermost files file is_any word from scope
+      → LooksFor files file false (word ∷ []) from (qualified scope word)
+  compound : {first second scope from : List ℕ} {others : List (List ℕ)}
+      → Innermost files file is_aggregate first from scope
+      → LooksFor files file false (first ∷ (second ∷ others)) from
+      (qualified scope (dotted (first ∷ (second ∷ others))))

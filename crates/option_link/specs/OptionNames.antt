@@ -17,7 +17,8 @@ use Rattle.option_link.specs.declared.facts.OptionFacts.{OptionFacts}
 use Rattle.option_link.specs.declared.place.DeclaredPlace.{DeclaredPlace}
 use Rattle.option_link.specs.declared.target.OptionTarget.{OptionTarget}
 use Rattle.option_link.specs.Places.{Stands}
-use Rattle.option_link.specs.Contexts.{HasWords, LacksMessage, NamesIn, StandsIn, options_message}
+use Rattle.option_link.specs.Contexts.{HasWords, IsReserved, LacksMessage, NamesIn, StandsIn}
+use Rattle.option_link.specs.Contexts.{behind_spelled, options_message}
 
 -- A name of an option of this file, and where what it names is declared.
 pub record NamesPlace (files : List File) (known : List OptionFacts) (file : ℕ) (text : List ℕ) (option : FileOption)
@@ -27,18 +28,20 @@ pub record NamesPlace (files : List File) (known : List OptionFacts) (file : ℕ
   pub stands : StandsIn files known file text option number context
   pub names : NamesIn files known file text option number name context at
 
--- What each of its components names: with k components of a full name of m, the entity of the full name up to the
--- component's number after the first m - k, in the file that declares it. A value of an enum, and a field by its simple
+-- What each of its components names: with k components of a full name of m, of which so many are behind those that it
+-- spells, the entity of the full name up to the component's number after the first m - k that are spelled, in the file
+-- that declares it; and of the last component what is declared there. A value of an enum, and a field by its simple
 -- name, have one component.
-pub record NamesParts (files : List File) (name : OptionName) (at : DeclaredPlace) (parts : List Entity) : Type 0 where
+pub record NamesParts (files : List File) (name : OptionName) (at : DeclaredPlace) (behind : ℕ) (parts : List Entity)
+    : Type 0 where
   pub declaration : Declaration
   pub stands : Stands files at declaration
   pub facts : Facts
   pub known : HasFacts files at.file facts
   pub skipped : ℕ
-  pub split : skipped + length name.name.components ≡ length (components_of declaration.full_name)
+  pub split : skipped + length name.name.components + behind ≡ length (components_of declaration.full_name)
   pub one_each : length parts ≡ length name.name.components
-  pub named : (j : ℕ) (part : Entity) → slice_get parts j ≡ Some part
+  pub named : (j : ℕ) (part : Entity) → slice_get parts j ≡ Some part → j + 1 < length parts
       → IsEntityOf at.file facts (prefix_of declaration.full_name (skipped + j + 1)) (skipped + j + 1) part
   pub last : (j : ℕ) → j + 1 ≡ length parts → slice_get parts j ≡ Some (Declared at.file at.index)
 
@@ -48,12 +51,13 @@ pub record IsOptionTarget (files : List File) (known : List OptionFacts) (file :
   pub name : OptionName
   pub at : DeclaredPlace
   pub names : NamesPlace files known file text option target.name_number name at
-  pub parts : NamesParts files name at target.parts
+  pub parts : NamesParts files name at (behind_spelled names.names) target.parts
 
 -- ---- gaps
 
 -- A name that need name nothing: a word that is given to a scalar field; `key` and `value` of a map's entries; what is
--- in options that nobody tells of; a plain part of an element's options of which there is no message.
+-- in options that nobody tells of; a plain part of an element's options of which there is no message; what a message
+-- reserves, and what is given to that.
 pub data NeedsNoTarget (files : List File) (known : List OptionFacts) (file : ℕ) (text : List ℕ) (option : FileOption)
     (number : ℕ) (name : OptionName) : Type 0 where
   word : name.role ≡ role.Value → StandsIn files known file text option number inside.Scalar
@@ -67,6 +71,11 @@ pub data NeedsNoTarget (files : List File) (known : List OptionFacts) (file : �
   without_message : name.role ≡ role.Field
       → LacksMessage files file (options_message option.element)
       → StandsIn files known file text option number inside.Options
+      → NeedsNoTarget files known file text option number name
+  reserved : {message : DeclaredPlace} → IsReserved files known text option number name message
+      → StandsIn files known file text option number (inside.Message message)
+      → NeedsNoTarget files known file text option number name
+  skipped : StandsIn files known file text option number inside.Skipped
       → NeedsNoTarget files known file text option number name
 
 -- A name that names nothing and should.

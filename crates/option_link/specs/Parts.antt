@@ -10,13 +10,15 @@ use Rattle.option_link.specs.declared.facts.OptionFacts.{OptionFacts}
 use Rattle.option_link.specs.declared.target.OptionTarget.{OptionTarget}
 use Rattle.option_link.specs.OptionNames.{IsGap, IsOptionTarget}
 
--- Beside its facts the same is known of a file as of another: its fields, and its options if it is a source.
+-- Beside its facts the same is known of a file as of another: its fields, what its messages say, and its options if it
+-- is a source.
 pub record IsKnownAlike (known theirs : List OptionFacts) (number there : ℕ) (file : File) : Type 0 where
   pub own : OptionFacts
   pub other : OptionFacts
   pub of_own : slice_get known number ≡ Some own
   pub of_other : slice_get theirs there ≡ Some other
   pub fields : own.fields ≡ other.fields
+  pub messages : own.messages ≡ other.messages
   pub options : file.is_included ≡ false → own.options ≡ other.options
 
 -- of each file of the part, as of the one that it is in the whole

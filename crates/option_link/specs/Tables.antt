@@ -22,9 +22,16 @@ use Rattle.option_link.specs.declared.table.Listed.{Listed}
 use Rattle.option_link.specs.Places.{Stands, StandsAs, place_at}
 use Rattle.option_link.specs.Lookups.{is_any}
 
--- a declaration of a file, as it is listed
+-- something of a file, as it is listed by its number among the others there
+abbrev pub listed_by : {A : Type 0} → (hash : A → ℕ) → DeclaredPlace → A → Listed
+listed_by hash place one = record { hash64 = hash one; place = place }
+
+-- a declaration is listed by its full name
+abbrev pub name_hash : Declaration → ℕ
+name_hash declaration = hash64 declaration.full_name
+
 abbrev pub listed_at : DeclaredPlace → Declaration → Listed
-listed_at place declaration = record { hash64 = hash64 declaration.full_name; place = place }
+listed_at place declaration = listed_by name_hash place declaration
 
 -- Of each of the first so many it is told whether this holds.
 pub record TellsOf (Holds : ℕ → Type 0) (count : ℕ) (told : List Bool) : Type 0 where
@@ -37,12 +44,12 @@ pub record Lists (files : List File) (listed : List Listed) : Type 0 where
   pub each : (place : DeclaredPlace) (declaration : Declaration) → Stands files place declaration
       → Contains listed (listed_at place declaration)
 
--- the list has what it had, and the first so many of these declarations of a file
-pub record AddsUpTo (file : ℕ) (declarations : List Declaration) (count : ℕ) (old new : List Listed) : Type 0 where
+-- the list has what it had, and the first so many of these of a file
+pub record AddsUpTo {A : Type 0} (hash : A → ℕ) (file : ℕ) (each : List A) (count : ℕ) (old new : List Listed)
+    : Type 0 where
   pub kept : (one : Listed) → Contains old one → Contains new one
-  pub added : (index : ℕ) (declaration : Declaration) → index < count
-      → slice_get declarations index ≡ Some declaration
-      → Contains new (listed_at (place_at file index) declaration)
+  pub added : (index : ℕ) (one : A) → index < count → slice_get each index ≡ Some one
+      → Contains new (listed_by hash (place_at file index) one)
 
 -- and all declarations of this file
 pub record Adds (files : List File) (file : ℕ) (old new : List Listed) : Type 0 where
@@ -107,19 +114,6 @@ pub record IsOwned (files : List File) (file : ℕ) (admits : NameKind → Bool)
 -- more words than one, of which this is the first
 abbrev pub AreSeveral : (first : List ℕ) → (words : List (List ℕ)) → Type 0
 AreSeveral first words = (second : List ℕ) × (others : List (List ℕ)) × (words ≡ first ∷ (second ∷ others))
-
--- By its words, whether a dot leads, and the scope from which a name in parentheses or in brackets is looked up: the
--- only full name that it may have, be that known as a field or not.
-pub data LooksFor (files : List File) (file : ℕ)
-    : (has_dot : Bool) → (words : List (List ℕ)) → (from name : List ℕ) → Type 0 where
-  absolute : {words : List (List ℕ)} {from : List ℕ} → LooksFor files file true words from (dotted words)
-  single : {word scope from : List ℕ}
-      → Innermost files file is_any word from scope
-      → LooksFor files file false (word ∷ []) from (qualified scope word)
-  compound : {first second scope from : List ℕ} {others : List (List ℕ)}
-      → Innermost files file is_aggregate first from scope
-      → LooksFor files file false (first ∷ (second ∷ others)) from
-      (qualified scope (dotted (first ∷ (second ∷ others))))
 
 -- the use of a file whose first component starts here
 pub record IsUseAt (files : List File) (file start : ℕ) (type_use : Use) : Type 0 where

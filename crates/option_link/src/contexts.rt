@@ -21,6 +21,8 @@ pub(crate) enum Context {
     Scalar,
     /// Options that nobody tells of.
     Untold,
+    /// What is given to a name that a message reserves.
+    Skipped,
 }
 
 /// The full name of the message of an element's options.

@@ -1,6 +1,8 @@
 //! Fields by names in parentheses or in brackets.
 
 ghost use Rattle.std.specs.Prelude.{ℕ, List, ⊤, ◌≡◌, ◌<◌, ◌↔◌, IsTrue, IfOk, MatchOption, length, map};
+ghost use Rattle.std.specs.Option.{is_some};
+ghost use Rattle.std.specs.String.{string_bytes};
 ghost use denote.Ref.{Bor};
 ghost use Rattle.proto_decl.specs.declared.declaration.Declaration.{Declaration};
 ghost use Rattle.proto_decl.specs.declared.declaration.DeclarationKind.TheVariants.{Field};
@@ -10,7 +12,8 @@ ghost use Rattle.option_link.specs.Places.{Stands, StandsAs};
 ghost use Rattle.option_link.specs.Fields.{IsFieldOf};
 ghost use Rattle.option_link.specs.Tables.{IsClear};
 ghost use Rattle.option_link.specs.Contexts.{MayBeExtended};
-ghost use Rattle.option_link.specs.Found.{IsExtendedName, IsExtensionFrom, IsExtensionNamed, IsScope};
+ghost use Rattle.option_link.specs.Found.{IsExtendedName, IsExtensionNamed, IsNamedBy, IsScope, IsSetIn, IsSoughtName};
+ghost use Rattle.option_link.specs.Found.{LacksSoughtName};
 
 use crate::contexts::{Context, options_message};
 use crate::naming::Asked;
@@ -18,11 +21,12 @@ use crate::place::{DeclaredPlace, is_same};
 use crate::sought::Sought;
 use basics::KeptText;
 use proto_decl::{facts_are_filled, facts_in_order, scope_around};
+use proto_options::OptionName;
 use std::alloc::{AllocError, Global};
 
 impl<'k, 'n, 'a, 't> Asked<'k, 'n, 'a, 't> {
     /// The full name of the messages that names in parentheses or in brackets extend.
-    pub(crate) fn extended_name(
+    fn extended_name(
         self,
         alloc: Global,
         context: Context,
@@ -43,6 +47,7 @@ impl<'k, 'n, 'a, 't> Asked<'k, 'n, 'a, 't> {
             Context::Enum(_) => Ok(None),
             Context::Scalar => Ok(None),
             Context::Untold => Ok(None),
+            Context::Skipped => Ok(None),
         }
     }
 
@@ -72,7 +77,7 @@ impl<'k, 'n, 'a, 't> Asked<'k, 'n, 'a, 't> {
     }
 
     /// The scope from which a name is looked up that extends messages with this full name.
-    pub(crate) fn scope_of<'s>(&'s self, number: usize, extended: &'s str) -> &'s str
+    fn scope_of<'s>(&'s self, number: usize, extended: &'s str) -> &'s str
         requires { 0 < length extended.now }
         ensures { IsScope self.now.option.now number extended.now result.now }
     {
@@ -86,34 +91,82 @@ impl<'k, 'n, 'a, 't> Asked<'k, 'n, 'a, 't> {
         }
     }
 
-    /// The field by the words of a name and the scope from which it is looked up.
-    pub(crate) fn extension_from(
+    /// The only full name that a name in parentheses or in brackets may have by its words.
+    pub(crate) fn sought_name(
         self,
         alloc: Global,
-        has_dot: bool,
+        number: usize,
+        name: &OptionName,
         words: &[&str],
-        scope: &str,
         context: Context,
-    ) -> Result<Option<DeclaredPlace>, AllocError>
-        requires { self.file < length self.files.names.now }
-        ensures { IfOk result (λ found. MatchOption found ((field : DeclaredPlace)
-            → IsExtensionFrom self.entry.files.names.now self.entry.files.known.now self.entry.file
-            self.entry.option.now context has_dot (map (λ (word : Bor (List ℕ)). word.now) words.now) scope.now
-            field → ⊥)
-            (IsExtensionFrom self.entry.files.names.now self.entry.files.known.now self.entry.file
-            self.entry.option.now context has_dot (map (λ (word : Bor (List ℕ)). word.now) words.now) scope.now)) }
+    ) -> Result<Option<String>, AllocError>
+        requires file { self.file < length self.files.names.now }
+        requires clear { IsClear self.files.names.now context }
+        ensures { IfOk result (λ found. MatchOption found (LacksSoughtName self.entry.files.names.now self.entry.file
+            self.entry.option.now number context (is_some name.now.name.leading_dot)
+            (map (λ (word : Bor (List ℕ)). word.now) words.now))
+            (λ full_name. IsSoughtName self.entry.files.names.now self.entry.file self.entry.option.now number context
+            (is_some name.now.name.leading_dot) (map (λ (word : Bor (List ℕ)). word.now) words.now)
+            (string_bytes full_name))) }
     {
-        let found = self
-            .files
-            .names
-            .full_name_of(alloc, self.file, has_dot, words, scope)?;
-        match found {
-            Some(full_name) => self.extension_named(alloc, full_name.as_str(), context),
+        match self.extended_name(alloc, context)? {
+            Some(extended) => {
+                let scope = self.scope_of(number, extended.as_str());
+                let has_dot = name.name.leading_dot.is_some();
+                self.files
+                    .names
+                    .full_name_of(alloc, self.file, has_dot, words, scope)
+            }
             None => Ok(None),
         }
     }
 
-    /// The same by its full name.
+    /// What a name in parentheses or in brackets names by that full name.
+    pub(crate) fn named_by(
+        self,
+        alloc: Global,
+        number: usize,
+        full_name: &str,
+        context: Context,
+    ) -> Result<Option<DeclaredPlace>, AllocError>
+        requires { self.file < length self.files.names.now }
+        ensures { IfOk result (λ found. MatchOption found ((field : DeclaredPlace)
+            → IsNamedBy self.entry.files.names.now self.entry.files.known.now self.entry.file self.entry.option.now
+            number context full_name.now field → ⊥)
+            (IsNamedBy self.entry.files.names.now self.entry.files.known.now self.entry.file self.entry.option.now
+            number context full_name.now)) }
+    {
+        match self.set_of(number, context) {
+            Some(set) => self.named_in_set(alloc, number, set, full_name, context),
+            None => self.extension_named(alloc, full_name, context),
+        }
+    }
+
+    /// The same in a message set.
+    fn named_in_set(
+        self,
+        alloc: Global,
+        number: usize,
+        set: DeclaredPlace,
+        full_name: &str,
+        context: Context,
+    ) -> Result<Option<DeclaredPlace>, AllocError>
+        requires file { self.file < length self.files.names.now }
+        requires set { IsSetIn self.files.names.now self.files.known.now self.option.now number context set }
+        ensures { IfOk result (λ found. MatchOption found ((field : DeclaredPlace)
+            → IsNamedBy self.entry.files.names.now self.entry.files.known.now self.entry.file self.entry.option.now
+            number context full_name.now field → ⊥)
+            (IsNamedBy self.entry.files.names.now self.entry.files.known.now self.entry.file self.entry.option.now
+            number context full_name.now)) }
+    {
+        let is_field = self.files.names.knows(self.file, full_name, Sought::AField);
+        if is_field {
+            return self.extension_named(alloc, full_name, context);
+        }
+        self.item_named(alloc, set, full_name)
+    }
+
+    /// The field with a full name, if it extends what it may.
     fn extension_named(
         self,
         alloc: Global,
@@ -186,6 +239,7 @@ impl<'k, 'n, 'a, 't> Asked<'k, 'n, 'a, 't> {
             Context::Enum(_) => Ok(false),
             Context::Scalar => Ok(false),
             Context::Untold => Ok(false),
+            Context::Skipped => Ok(false),
         }
     }
 }

@@ -8,7 +8,7 @@ ghost use Rattle.option_link.specs.Fields.{AreInOrder};
 ghost use Rattle.option_link.specs.declared.facts.OptionFacts.{OptionFacts};
 
 use basics::Sequence;
-use proto_options::{FieldFact, FileOption};
+use proto_options::{FieldFact, FileOption, MessageFact};
 use std::alloc::{AllocError, Global};
 use std::marker::Model;
 
@@ -19,11 +19,13 @@ pub struct OptionFacts {
     pub options: Sequence<FileOption>,
     /// Its fields, in order of place.
     pub fields: Sequence<FieldFact>,
+    /// What its messages say of names.
+    pub messages: Sequence<MessageFact>,
 }
 
 /// What is known of files beside their facts, each where it was read, by the numbers of the files.
 ///
-/// Contracts see the list of it, with neither options nor fields of a file of which nothing is known.
+/// Contracts see the list of it, with no options, no fields and no messages of a file of which nothing is known.
 #[derive(Drop)]
 pub struct FilesBeside<'k> {
     each: Vec<Option<&'k OptionFacts>>,
@@ -92,6 +94,16 @@ impl<'k> FilesBeside<'k> {
     {
         match self.beside(file) {
             Some(beside) => beside.fields.as_slice(),
+            None => &[],
+        }
+    }
+
+    /// What the messages of the file with a number say of names.
+    pub(crate) fn messages_of(&self, file: usize) -> &'k [MessageFact]
+        ensures { MatchOption (slice_get self.now file) (result.now ≡ []) (λ beside. result.now ≡ beside.messages) }
+    {
+        match self.beside(file) {
+            Some(beside) => beside.messages.as_slice(),
             None => &[],
         }
     }

@@ -36,11 +36,12 @@ impl<'k, 'n, 'a, 't> Asked<'k, 'n, 'a, 't> {
     pub(crate) fn needs_none(
         self,
         alloc: Global,
+        number: usize,
         name: &OptionName,
         context: Option<Context>,
     ) -> Result<bool, AllocError>
         requires { LinksOptions self.files.names.now self.file }
-        ensures { IfOk result (λ is. (number : ℕ) → MatchOption context
+        ensures { IfOk result (λ is. MatchOption context
             ((inner : Context) → StandsIn self.entry.files.names.now self.entry.files.known.now self.entry.file
             self.entry.text.now self.entry.option.now number inner → ⊥)
             (StandsIn self.entry.files.names.now self.entry.files.known.now self.entry.file self.entry.text.now
@@ -53,7 +54,7 @@ impl<'k, 'n, 'a, 't> Asked<'k, 'n, 'a, 't> {
         facts_are_filled();
         // From here on it is known that a name is looked up in one thing at most.
         match context {
-            Some(inner) => self.needs_none_in(alloc, name, inner),
+            Some(inner) => self.needs_none_in(alloc, number, name, inner),
             None => Ok(false),
         }
     }
@@ -62,19 +63,22 @@ impl<'k, 'n, 'a, 't> Asked<'k, 'n, 'a, 't> {
     fn needs_none_in(
         self,
         alloc: Global,
+        number: usize,
         name: &OptionName,
         context: Context,
     ) -> Result<bool, AllocError>
         requires { LinksOptions self.files.names.now self.file }
-        ensures { IfOk result (λ is. IsTrue is ↔ NeedsNoneIn self.entry.files.names.now self.entry.file
-            self.entry.text.now self.entry.option.now name.now context) }
+        ensures { IfOk result (λ is. IsTrue is ↔ NeedsNoneIn self.entry.files.names.now
+            self.entry.files.known.now self.entry.file self.entry.text.now self.entry.option.now number name.now
+            context) }
     {
         match context {
             Context::Scalar => Ok(is_as(name, OptionRole::Value)),
             Context::Untold => Ok(is_none_of_extension(name)),
             Context::Options => self.is_without_message(alloc, name),
             Context::Entries(_) => Ok(self.is_entry(name)),
-            Context::Message(_) => Ok(false),
+            Context::Message(message) => Ok(self.is_reserved(number, name, message)),
+            Context::Skipped => Ok(true),
             Context::Enum(_) => Ok(false),
         }
     }
@@ -110,12 +114,13 @@ impl<'k, 'n, 'a, 't> Asked<'k, 'n, 'a, 't> {
     pub(crate) fn gives(
         self,
         alloc: Global,
+        number: usize,
         name: &OptionName,
         context: Context,
         target: Option<DeclaredPlace>,
     ) -> Result<Option<Context>, AllocError>
         requires { LinksOptions self.files.names.now self.file }
-        ensures { IfOk result (λ found. (number : ℕ) → MatchOption target
+        ensures { IfOk result (λ found. MatchOption target
             ((at : DeclaredPlace) → NamesIn self.entry.files.names.now self.entry.files.known.now self.entry.file
             self.entry.text.now self.entry.option.now number name.now context at → ⊥)
             (NamesIn self.entry.files.names.now self.entry.files.known.now self.entry.file self.entry.text.now
@@ -128,7 +133,7 @@ impl<'k, 'n, 'a, 't> Asked<'k, 'n, 'a, 't> {
     {
         match target {
             Some(place) => self.place_gives(alloc, name.role, place),
-            None => self.unnamed_gives(alloc, name, context),
+            None => self.unnamed_gives(alloc, number, name, context),
         }
     }
 
@@ -156,35 +161,57 @@ impl<'k, 'n, 'a, 't> Asked<'k, 'n, 'a, 't> {
     fn unnamed_gives(
         self,
         alloc: Global,
+        number: usize,
         name: &OptionName,
         context: Context,
     ) -> Result<Option<Context>, AllocError>
         requires { LinksOptions self.files.names.now self.file }
         ensures { IfOk result (λ found. MatchOption found ((inner : Context) → LeadsUnnamed self.entry.files.names.now
-            self.entry.files.known.now self.entry.file self.entry.text.now self.entry.option.now name.now context
+            self.entry.files.known.now self.entry.file self.entry.text.now self.entry.option.now number name.now context
             inner → ⊥)
             (LeadsUnnamed self.entry.files.names.now self.entry.files.known.now self.entry.file self.entry.text.now
-            self.entry.option.now name.now context)) }
+            self.entry.option.now number name.now context)) }
     {
         match context {
-            Context::Entries(map) => self.entry_gives(alloc, name, map),
-            Context::Untold => self.untold_gives(alloc, name),
-            Context::Options => self.options_give(alloc, name),
-            Context::Message(_) => Ok(None),
+            Context::Entries(map) => self.entry_gives(alloc, number, name, map),
+            Context::Untold => self.untold_gives(alloc, number, name),
+            Context::Options => self.options_give(alloc, number, name),
+            Context::Message(message) => Ok(self.skipped_by(number, name, message)),
+            Context::Skipped => Ok(Some(Context::Skipped)),
             Context::Enum(_) => Ok(None),
             Context::Scalar => Ok(None),
         }
     }
 
+    /// What a plain name in a message gives that names nothing: what is given to it is read past, if the message
+    /// reserves it.
+    fn skipped_by(self, number: usize, name: &OptionName, message: DeclaredPlace) -> Option<Context>
+        ensures { MatchOption result ((inner : Context) → LeadsUnnamed self.entry.files.names.now
+            self.entry.files.known.now self.entry.file self.entry.text.now self.entry.option.now number name.now
+            (inside.Message message) inner → ⊥)
+            (LeadsUnnamed self.entry.files.names.now self.entry.files.known.now self.entry.file self.entry.text.now
+            self.entry.option.now number name.now (inside.Message message)) }
+    {
+        if !self.is_reserved(number, name, message) {
+            return None;
+        }
+        Some(Context::Skipped)
+    }
+
     /// What a plain part of the element's options gives that names nothing: if there is no message of them, nobody
     /// tells of what is in it.
-    fn options_give(self, alloc: Global, name: &OptionName) -> Result<Option<Context>, AllocError>
+    fn options_give(
+        self,
+        alloc: Global,
+        number: usize,
+        name: &OptionName,
+    ) -> Result<Option<Context>, AllocError>
         requires { LinksOptions self.files.names.now self.file }
         ensures { IfOk result (λ found. MatchOption found ((inner : Context) → LeadsUnnamed self.entry.files.names.now
-            self.entry.files.known.now self.entry.file self.entry.text.now self.entry.option.now name.now
+            self.entry.files.known.now self.entry.file self.entry.text.now self.entry.option.now number name.now
             inside.Options inner → ⊥)
             (LeadsUnnamed self.entry.files.names.now self.entry.files.known.now self.entry.file self.entry.text.now
-            self.entry.option.now name.now inside.Options)) }
+            self.entry.option.now number name.now inside.Options)) }
     {
         let is = self.is_without_message(alloc, name)?;
         if !is {
@@ -197,14 +224,15 @@ impl<'k, 'n, 'a, 't> Asked<'k, 'n, 'a, 't> {
     fn entry_gives(
         self,
         alloc: Global,
+        number: usize,
         name: &OptionName,
         map: DeclaredPlace,
     ) -> Result<Option<Context>, AllocError>
         ensures { IfOk result (λ found. MatchOption found ((inner : Context) → LeadsUnnamed self.entry.files.names.now
-            self.entry.files.known.now self.entry.file self.entry.text.now self.entry.option.now name.now
+            self.entry.files.known.now self.entry.file self.entry.text.now self.entry.option.now number name.now
             (inside.Entries map) inner → ⊥)
             (LeadsUnnamed self.entry.files.names.now self.entry.files.known.now self.entry.file self.entry.text.now
-            self.entry.option.now name.now (inside.Entries map))) }
+            self.entry.option.now number name.now (inside.Entries map))) }
     {
         if !is_as(name, OptionRole::Field) {
             return Ok(None);
@@ -219,13 +247,18 @@ impl<'k, 'n, 'a, 't> Asked<'k, 'n, 'a, 't> {
     }
 
     /// What the name of an option gives that nobody tells of: `default` what its field does.
-    fn untold_gives(self, alloc: Global, name: &OptionName) -> Result<Option<Context>, AllocError>
+    fn untold_gives(
+        self,
+        alloc: Global,
+        number: usize,
+        name: &OptionName,
+    ) -> Result<Option<Context>, AllocError>
         requires { self.file < length self.files.names.now }
         ensures { IfOk result (λ found. MatchOption found ((inner : Context) → LeadsUnnamed self.entry.files.names.now
-            self.entry.files.known.now self.entry.file self.entry.text.now self.entry.option.now name.now
+            self.entry.files.known.now self.entry.file self.entry.text.now self.entry.option.now number name.now
             inside.Untold inner → ⊥)
             (LeadsUnnamed self.entry.files.names.now self.entry.files.known.now self.entry.file self.entry.text.now
-            self.entry.option.now name.now inside.Untold)) }
+            self.entry.option.now number name.now inside.Untold)) }
     {
         if is_as(name, OptionRole::Extension) {
             return Ok(None);

@@ -31,6 +31,16 @@ pub fn targets_are_reachable()
     ensures { laws.TargetsAreReachable }
 {}
 
+/// Where no names clash, plain names in a source's options are looked up in the message that its imports lead to.
+pub fn each_source_has_its_options_message()
+    ensures { laws.EachSourceHasItsOptionsMessage }
+{}
+
+/// A plain name names the field of that name that its message declares.
+pub fn each_field_is_named()
+    ensures { laws.EachFieldIsNamed }
+{}
+
 /// An option of a source names in a part of files what it names in the whole, and has its gap there, if the part has
 /// what its sources reach.
 pub fn parts_name_alike()

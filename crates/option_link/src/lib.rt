@@ -1,9 +1,6 @@
 //! What the names in options name, in files that are linked.
 //!
 //! Options and what fields are of come from `proto_options`; what uses of types name from `proto_link`.
-//!
-//! Names in braces that a message reserves, which protoc reads past, and those of a MessageSet's extensions by their
-//! messages have no target, and are told as gaps.
 #![tactic(auto)]
 
 // What is linked, and what is found.
@@ -35,10 +32,12 @@ mod contexts;
 mod extensions;
 mod fronts;
 mod giving;
+mod items;
 mod members;
 mod messages;
 mod naming;
 mod parts;
+mod said;
 mod values;
 mod words;
 
@@ -50,8 +49,8 @@ mod laws;
 
 pub use facts::{FilesBeside, OptionFacts, fields_are_in_order};
 pub use laws::{
-    one_context_a_name, one_gap_an_option, one_target_a_name, parts_name_alike,
-    targets_are_reachable,
+    each_field_is_named, each_source_has_its_options_message, one_context_a_name,
+    one_gap_an_option, one_target_a_name, parts_name_alike, targets_are_reachable,
 };
 pub use linker::OptionLinker;
 pub use place::DeclaredPlace;

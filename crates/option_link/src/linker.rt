@@ -16,7 +16,7 @@ ghost use Rattle.option_link.specs.OptionNames.{IsOptionTarget, IsGap};
 ghost use Rattle.option_link.specs.Contexts.{Leads, NamesIn, StandsIn};
 ghost use Rattle.option_link.specs.OptionNames.{NeedsNoTarget};
 ghost use Rattle.option_link.specs.Tables.{IsClear};
-ghost use Rattle.option_link.specs.Found.{AddsTarget, AreFound, HasParts, first_gap};
+ghost use Rattle.option_link.specs.Found.{AddsParts, AreFound, ArePartsOf, HasParts, IsBehind, first_gap};
 
 use crate::contexts::Context;
 use crate::facts::FilesBeside;
@@ -27,17 +27,18 @@ use crate::naming::Asked;
 use crate::often::{fields_of, often_used, types_of};
 use crate::often_used::OftenUsed;
 use crate::place::DeclaredPlace;
+use crate::said::SaidOfMessages;
 use crate::table::DeclarationTable;
 use crate::target::{OptionTarget, OptionTargets};
 use basics::Sequence;
 use proto_decl::{facts_are_filled, facts_in_order};
-use proto_link::Linker;
+use proto_link::{Entity, Linker};
 use proto_options::{FileOption, OptionName};
 use std::alloc::{AllocError, Global};
 use std::marker::Model;
 
-/// Files that are linked, with all their declarations, what is known of each beside its facts, and what is known of the
-/// fields that options use often.
+/// Files that are linked, with all their declarations, what is known of each beside its facts, what is known of the
+/// fields that options use often, and what messages say.
 ///
 /// Contracts see the list of the files, and that of what is known of each.
 #[derive(Drop)]
@@ -45,9 +46,11 @@ pub struct OptionLinker<'n, 'a, 't> {
     known: &'n FilesBeside<'n>,
     table: DeclarationTable<'n, 'a, 't>,
     often: KnownFields,
+    said: SaidOfMessages<'n>,
 }
 
 impl<'n, 'a, 't> Model for OptionLinker<'n, 'a, 't> {
+    ghost use Rattle.std.specs.Prelude.{◌≡◌};
     ghost use Rattle.option_link.specs.KnownFields.{AreKnownFields};
     ghost use Rattle.option_link.specs.Linked.{LinkedOptions, AreKnown};
 
@@ -56,7 +59,8 @@ impl<'n, 'a, 't> Model for OptionLinker<'n, 'a, 't> {
     ghost view = { λ options. record { files = options.table; known = options.known.now } };
 
     ghost invariant = { λ options. AreKnown (record { files = options.table; known = options.known.now })
-        × AreKnownFields options.table options.known.now options.often.fields.items };
+        × AreKnownFields options.table options.known.now options.often.fields.items
+        × (options.said ≡ options.known.now) };
 }
 
 impl<'n, 'a, 't> OptionLinker<'n, 'a, 't> {
@@ -78,10 +82,12 @@ impl<'n, 'a, 't> OptionLinker<'n, 'a, 't> {
         let messages = OptionMessages::find(alloc, &table)?;
         table.keep_messages(messages);
         let often = fields_of(alloc, &table, known, numbers.as_slice())?;
+        let said = SaidOfMessages::find(alloc, known)?;
         Ok(OptionLinker {
             known,
             table,
             often,
+            said,
         })
     }
 
@@ -123,6 +129,7 @@ impl<'n, 'a, 't> OptionLinker<'n, 'a, 't> {
         };
         let asked = Asked {
             files,
+            said: &self.said,
             file,
             text,
             option,
@@ -167,12 +174,13 @@ fn target_in(
 fn given_in(
     alloc: Global,
     asked: Asked<'_, '_, '_, '_>,
+    number: usize,
     name: &OptionName,
     context: Option<Context>,
     target: Option<DeclaredPlace>,
 ) -> Result<Option<Context>, AllocError>
     requires { LinksOptions asked.files.names.now asked.file }
-    ensures gives { IfOk result (λ found. (number : ℕ) (outer : Context) → context ≡ Some outer → MatchOption target
+    ensures gives { IfOk result (λ found. (outer : Context) → context ≡ Some outer → MatchOption target
         ((at : DeclaredPlace) → NamesIn asked.entry.files.names.now asked.entry.files.known.now asked.entry.file
         asked.entry.text.now asked.entry.option.now number name.now outer at → ⊥)
         (NamesIn asked.entry.files.names.now asked.entry.files.known.now asked.entry.file asked.entry.text.now
@@ -185,27 +193,61 @@ fn given_in(
     ensures none { IfOk result (λ found. context ≡ None → found ≡ None) }
 {
     match context {
-        Some(outer) => asked.gives(alloc, name, outer, target),
+        Some(outer) => asked.gives(alloc, number, name, outer, target),
+        None => Ok(None),
+    }
+}
+
+/// How many components of the full name of what a name names come behind those that it spells.
+fn behind_in(
+    alloc: Global,
+    asked: Asked<'_, '_, '_, '_>,
+    number: usize,
+    name: &OptionName,
+    context: Option<Context>,
+) -> Result<usize, AllocError>
+    requires links { LinksOptions asked.files.names.now asked.file }
+    requires clear { MatchOption context ⊤ (IsClear asked.files.names.now) }
+    ensures { IfOk result (λ behind. (inner : Context) → context ≡ Some inner → IsBehind asked.entry.files.names.now
+        asked.entry.files.known.now asked.entry.file asked.entry.text.now asked.entry.option.now number name.now
+        name.now.role inner behind) }
+{
+    match context {
+        Some(inner) => asked.behind(alloc, number, name, inner),
+        None => Ok(0),
+    }
+}
+
+/// What the components of a name name, if it names something.
+fn parts_of(
+    alloc: Global,
+    asked: Asked<'_, '_, '_, '_>,
+    name: &OptionName,
+    behind: usize,
+    target: Option<DeclaredPlace>,
+) -> Result<Option<Sequence<Entity>>, AllocError>
+    requires { MatchOption target ⊤ (HasParts asked.files.names.now name.now behind) }
+    ensures { IfOk result (λ parts. ArePartsOf asked.entry.files.names.now name.now behind target parts) }
+{
+    match target {
+        Some(place) => {
+            let parts = asked.parts(alloc, name, behind, place)?;
+            Ok(Some(parts))
+        }
         None => Ok(None),
     }
 }
 
 /// Adds what a name names, if it names something.
 fn add_target(
-    alloc: Global,
-    asked: Asked<'_, '_, '_, '_>,
     number: usize,
-    name: &OptionName,
-    target: Option<DeclaredPlace>,
+    parts: Option<Sequence<Entity>>,
     targets: &mut Vec<OptionTarget>,
 ) -> Result<(), AllocError>
-    requires { MatchOption target ⊤ (HasParts asked.files.names.now name.now) }
-    ensures { OnOk result (AddsTarget asked.entry.files.names.now name.now number target targets.old.items
-        targets.new.items) }
+    ensures { OnOk result (AddsParts number parts targets.old.items targets.new.items) }
 {
-    match target {
-        Some(place) => {
-            let parts = asked.parts(alloc, name, place)?;
+    match parts {
+        Some(parts) => {
             targets.push(OptionTarget {
                 name_number: number,
                 parts,
@@ -220,12 +262,13 @@ fn add_target(
 fn is_gap(
     alloc: Global,
     asked: Asked<'_, '_, '_, '_>,
+    number: usize,
     name: &OptionName,
     context: Option<Context>,
     target: Option<DeclaredPlace>,
 ) -> Result<bool, AllocError>
     requires { LinksOptions asked.files.names.now asked.file }
-    ensures { IfOk result (λ is. (number : ℕ) → MatchOption context
+    ensures { IfOk result (λ is. MatchOption context
         ((inner : Context) → StandsIn asked.entry.files.names.now asked.entry.files.known.now asked.entry.file
         asked.entry.text.now asked.entry.option.now number inner → ⊥)
         (StandsIn asked.entry.files.names.now asked.entry.files.known.now asked.entry.file asked.entry.text.now
@@ -236,7 +279,7 @@ fn is_gap(
     match target {
         Some(_place) => Ok(false),
         None => {
-            let needs_none = asked.needs_none(alloc, name, context)?;
+            let needs_none = asked.needs_none(alloc, number, name, context)?;
             Ok(!needs_none)
         }
     }
@@ -280,9 +323,11 @@ fn find_named(
     // From here on it is known that a name names one thing at most.
     let context = asked.context_of(name, found.given.as_slice());
     let target = target_in(alloc, asked, number, name, context)?;
-    let given = given_in(alloc, asked, name, context, target)?;
-    let is = is_gap(alloc, asked, name, context, target)?;
-    add_target(alloc, asked, number, name, target, &mut found.targets)?;
+    let given = given_in(alloc, asked, number, name, context, target)?;
+    let is = is_gap(alloc, asked, number, name, context, target)?;
+    let behind = behind_in(alloc, asked, number, name, context)?;
+    let parts = parts_of(alloc, asked, name, behind, target)?;
+    add_target(number, parts, &mut found.targets)?;
     found.gap = first_gap(found.gap, number, is);
     found.given.push(given)?;
     Ok(())

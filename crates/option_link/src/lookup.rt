@@ -9,7 +9,8 @@ ghost use Rattle.proto_decl.specs.Names.{qualified, dotted};
 ghost use Rattle.proto_visibility.specs.Knows.{KnowsAs, is_aggregate};
 ghost use Rattle.option_link.specs.declared.place.DeclaredPlace.{DeclaredPlace};
 ghost use Rattle.option_link.specs.Contexts.{IsMessageNamed};
-ghost use Rattle.option_link.specs.Tables.{AreSeveral, IsSought, LooksFor};
+ghost use Rattle.option_link.specs.Tables.{AreSeveral, IsSought};
+ghost use Rattle.option_link.specs.Lookups.{LooksFor};
 ghost use Rattle.option_link.specs.Typed.{IsMessageAt};
 ghost use Rattle.option_link.specs.Lookups.{admits, is_any};
 
@@ -23,7 +24,7 @@ use std::alloc::{AllocError, Global};
 
 impl<'n, 'a, 't> DeclarationTable<'n, 'a, 't> {
     /// Whether a file knows a name as what is sought.
-    fn knows(&self, file: usize, name: &str, sought: Sought) -> bool
+    pub(crate) fn knows(&self, file: usize, name: &str, sought: Sought) -> bool
         requires { file < length self.now }
         ensures { IsTrue result ↔ KnowsAs self.now file (admits sought) name.now }
     {

@@ -102,6 +102,7 @@ impl<'k, 'n, 'a, 't> Asked<'k, 'n, 'a, 't> {
             Context::Enum(_) => Ok(None),
             Context::Scalar => Ok(None),
             Context::Untold => Ok(None),
+            Context::Skipped => Ok(None),
         }
     }
 

@@ -17,6 +17,7 @@ ghost use Rattle.option_link.specs.Found.{AreGiven, IsOneWord, in_braces};
 use crate::contexts::Context;
 use crate::fields::KnownFiles;
 use crate::place::DeclaredPlace;
+use crate::said::SaidOfMessages;
 use crate::words::{is_word, only_word, words_of};
 use proto_lex::Span;
 use proto_options::{Element, FileOption, OptionName, OptionRole};
@@ -26,9 +27,11 @@ use std::alloc::{AllocError, Global};
 #[derive(Clone, Copy)]
 pub(crate) struct Asked<'k, 'n, 'a, 't> {
     pub(crate) files: KnownFiles<'k, 'n, 'a, 't>,
+    pub(crate) said: &'k SaidOfMessages<'n>,
     pub(crate) file: usize,
     pub(crate) text: &'k str,
     pub(crate) option: &'k FileOption,
+    ghost same_said: { said.now ≡ files.known.now },
 }
 
 /// The field whose name is at a place that an element is, if it is one.
@@ -260,12 +263,8 @@ impl<'k, 'n, 'a, 't> Asked<'k, 'n, 'a, 't> {
             (NamesAs self.entry.files.names.now self.entry.files.known.now self.entry.file
             self.entry.text.now self.entry.option.now number name.now role.Extension context)) }
     {
-        match self.extended_name(alloc, context)? {
-            Some(extended) => {
-                let scope = self.scope_of(number, extended.as_str());
-                let has_dot = name.name.leading_dot.is_some();
-                self.extension_from(alloc, has_dot, words, scope, context)
-            }
+        match self.sought_name(alloc, number, name, words, context)? {
+            Some(full_name) => self.named_by(alloc, number, full_name.as_str(), context),
             None => Ok(None),
         }
     }
@@ -295,6 +294,7 @@ impl<'k, 'n, 'a, 't> Asked<'k, 'n, 'a, 't> {
             Context::Enum(_) => Ok(None),
             Context::Scalar => Ok(None),
             Context::Untold => Ok(None),
+            Context::Skipped => Ok(None),
         }
     }
 
@@ -322,6 +322,7 @@ impl<'k, 'n, 'a, 't> Asked<'k, 'n, 'a, 't> {
             Context::Entries(_) => Ok(None),
             Context::Scalar => Ok(None),
             Context::Untold => Ok(None),
+            Context::Skipped => Ok(None),
         }
     }
 }

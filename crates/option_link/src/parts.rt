@@ -16,17 +16,19 @@ use proto_options::OptionName;
 use std::alloc::{AllocError, Global};
 
 impl<'k, 'n, 'a, 't> Asked<'k, 'n, 'a, 't> {
-    /// What the components of a name name whose last one names this.
+    /// What the components of a name name whose last one names this. So many components of the full name of that come
+    /// behind those that the name spells.
     pub(crate) fn parts(
         self,
         alloc: Global,
         name: &OptionName,
+        behind: usize,
         place: DeclaredPlace,
     ) -> Result<Sequence<Entity>, AllocError>
-        requires { HasParts self.files.names.now name.now place }
-        ensures { IfOk result (λ parts. NamesParts self.entry.files.names.now name.now place parts) }
+        requires { HasParts self.files.names.now name.now behind place }
+        ensures { IfOk result (λ parts. NamesParts self.entry.files.names.now name.now place behind parts) }
     {
-        let mut parts = self.outer_parts(alloc, name, place)?;
+        let mut parts = self.outer_parts(alloc, name, behind, place)?;
         parts.push(Entity::Declared(place.file, place.index))?;
         Ok(Sequence::from_vec(parts))
     }
@@ -36,10 +38,12 @@ impl<'k, 'n, 'a, 't> Asked<'k, 'n, 'a, 't> {
         self,
         alloc: Global,
         name: &OptionName,
+        behind: usize,
         place: DeclaredPlace,
     ) -> Result<Vec<Entity>, AllocError>
-        requires { HasParts self.files.names.now name.now place }
-        ensures { IfOk result (λ parts. NamesOuterParts self.entry.files.names.now name.now place parts.items) }
+        requires { HasParts self.files.names.now name.now behind place }
+        ensures { IfOk result (λ parts. NamesOuterParts self.entry.files.names.now name.now place behind
+            parts.items) }
     {
         let count = name.name.components.as_slice().len();
         if count == 1 {
@@ -48,7 +52,10 @@ impl<'k, 'n, 'a, 't> Asked<'k, 'n, 'a, 't> {
         match self.files.names.declaration_at(place) {
             Some(declared) => {
                 let full_name = full_name_of(alloc, declared)?;
-                self.parts_around(alloc, place.file, full_name.as_str(), count)
+                let all = count + behind;
+                let mut parts = self.parts_around(alloc, place.file, full_name.as_str(), all)?;
+                parts.truncate(count - 1);
+                Ok(parts)
             }
             None => Ok(Vec::new(alloc)),
         }

@@ -16,7 +16,7 @@ ghost use Rattle.option_link.specs.Marks.{AreListedMarked};
 ghost use Rattle.option_link.specs.Places.{Stands};
 ghost use Rattle.option_link.specs.Messages.{AreOptionsMessages};
 ghost use Rattle.option_link.specs.Typed.{AreTypesFound, IsTypeFound};
-ghost use Rattle.option_link.specs.Tables.{Adds, AddsUpTo, AreNear, HasName, IsAlone, Lists};
+ghost use Rattle.option_link.specs.Tables.{Adds, AddsUpTo, AreNear, HasName, IsAlone, Lists, name_hash};
 
 use crate::marks::{is_marked, mark, no_marks};
 use crate::messages::OptionMessages;
@@ -29,10 +29,10 @@ use proto_link::Linker;
 use std::alloc::{AllocError, Global};
 use std::marker::Model;
 
-/// A declaration by its place, with the number that its full name is hashed by.
+/// A declaration by its place, with the number that its full name is hashed by. What messages say is listed so, too.
 #[derive(Clone, Copy, Debug, PartialEq, Eq)]
 pub(crate) struct Listed {
-    hash64: u64,
+    pub(crate) hash64: u64,
     pub(crate) place: DeclaredPlace,
 }
 
@@ -71,7 +71,8 @@ fn list_file(
     file: usize,
     declarations: &[Declaration<'_>],
 ) -> Result<(), AllocError>
-    ensures { OnOk result (AddsUpTo file declarations.now (length declarations.now) listed.old.items listed.new.items) }
+    ensures { OnOk result (AddsUpTo name_hash file declarations.now (length declarations.now) listed.old.items
+        listed.new.items) }
 {
     for index in 0..declarations.len() {
         let declaration = &declarations[index];
@@ -343,8 +344,8 @@ fn is_full_name(one: &FullName<'_>, other: &FullName<'_>) -> bool
     one == other
 }
 
-/// Those whose full names are hashed by a number.
-fn near<'s>(listed: &'s [Listed], number: u64) -> &'s [Listed]
+/// Those that are hashed by a number.
+pub(crate) fn near<'s>(listed: &'s [Listed], number: u64) -> &'s [Listed]
     requires { IsNonDecreasingBy (λ one. one.hash64) listed.now }
     ensures { (one : Listed) → Contains result.now one
         ↔ (Contains listed.now one × (one.hash64 ≡ number)) }
@@ -355,7 +356,7 @@ fn near<'s>(listed: &'s [Listed], number: u64) -> &'s [Listed]
     behind.split_at(count).0
 }
 
-/// How many in front have full names that are hashed by this number: mostly one or none, so they are counted.
+/// How many in front are hashed by this number: mostly one or none, so they are counted.
 fn count_with(listed: &[Listed], hash64: u64) -> usize
     ensures few { result ≤ length listed.now }
     ensures same { (index : ℕ) (one : Listed) → index < result → slice_get listed.now index ≡ Some one

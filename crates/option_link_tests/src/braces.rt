@@ -8,12 +8,12 @@ const TYPES: &str =
 0; W = 1; } message N { optional int32 i = 1; repeated N n = 2; optional E e = 3; } message T { \
 extensions 100 to 199; optional int32 a = 1; optional N n = 2; repeated N ns = 3; repeated E es = 4; \
 optional E e = 5; optional string s = 6; optional double d = 7; map<string, N> m = 8; optional bool b \
-= 9; repeated int32 is = 10;\noptional group G = 11 { optional int32 ga = 1; } } extend T { optional \
-int32 x1 = 100; optional N x2 = 101; repeated N x3 = 102; } message H { extend T { optional int32 y = \
-103; } }\nextend google.protobuf.FileOptions { optional T x = 50001; }\n";
+= 9; repeated int32 is = 10; reserved \"old\", \"o\" \"lder\";\noptional group G = 11 { optional \
+int32 ga = 1; } } extend T { optional int32 x1 = 100; optional N x2 = 101; repeated N x3 = 102; } message H { extend T \
+{ optional int32 y = 103; } }\nextend google.protobuf.FileOptions { optional T x = 50001; }\n";
 
 /// Options of a file below these, and what their names name.
-const ROWS: [(&str, &str); 25] = [
+const ROWS: [(&str, &str); 32] = [
     (
         "option (x) = { a: 1; n { i: 2, } e: W s: \"q\" \"r\" d: -1.5 };",
         "x>p.x a>p.T.a n>p.T.n i>p.N.i e>p.T.e W>p.W s>p.T.s d>p.T.d\n",
@@ -66,6 +66,23 @@ const ROWS: [(&str, &str); 25] = [
     ("option (x) = { /* c */ a: 1 // d\n };", "x>p.x a>p.T.a\n"),
     ("option (x) = { s: 'a' \"b\" };", "x>p.x s>p.T.s\n"),
     ("option (x) = { rr: 1 a: 2 };", "x>p.x rr? a>p.T.a\n"),
+    // what the message reserves is read past
+    (
+        "option (x) = { old: 1 a: 2 older: \"q\" zz: 3 };",
+        "x>p.x old a>p.T.a older zz?\n",
+    ),
+    (
+        "option (x) = { old { a: 1 [p.zz]: 2 zz { a: 1 } } a: 2 };",
+        "x>p.x old a p.zz zz a a>p.T.a\n",
+    ),
+    (
+        "option (x) = { old: [ { a: 1 }, < zz: 2 > ] };",
+        "x>p.x old a zz\n",
+    ),
+    ("option (x).old = 1;", "x>p.x old?\n"),
+    ("option (x) = { n { old: 1 } };", "x>p.x n>p.T.n old?\n"),
+    ("option (x) = { [old]: 1 };", "x>p.x old?\n"),
+    ("option (x) = { Old: 1 };", "x>p.x Old?\n"),
 ];
 
 #[test]

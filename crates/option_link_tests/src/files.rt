@@ -8,7 +8,7 @@ use basics::Sequence;
 use option_link::OptionFacts;
 use proto_decl::{FileFacts, declare};
 use proto_lex::{LexFault, Text, Tokens, lex};
-use proto_options::{fields_of, options_of};
+use proto_options::{fields_of, messages_of, options_of};
 use proto_parse::{Dialect, File, SyntaxFault, parse_with};
 use std::alloc::{AllocError, Global};
 use test_kit::{FileText, Made, file_text};
@@ -40,6 +40,7 @@ fn nothing(alloc: Global) -> OptionFacts {
     OptionFacts {
         options: Sequence::new(alloc),
         fields: Sequence::new(alloc),
+        messages: Sequence::new(alloc),
     }
 }
 
@@ -62,6 +63,7 @@ fn known_of_tree<'t>(
         beside: OptionFacts {
             options,
             fields: fields_of(alloc, file)?,
+            messages: messages_of(alloc, tokens, file)?,
         },
     })
 }
@@ -119,12 +121,14 @@ pub(crate) fn files_of<'t>(alloc: Global, row: &'t str) -> Made<Vec<FileText<'t>
         text: DESCRIPTOR,
         is_included: true,
         is_left_out: false,
+        is_unread: false,
     })?;
     files.push(FileText {
         path: "google/protobuf/any.proto",
         text: ANY,
         is_included: true,
         is_left_out: false,
+        is_unread: false,
     })?;
     Ok(files)
 }

@@ -17,3 +17,5 @@ mod packages;
 mod parts;
 #[cfg(test)]
 mod scopes;
+#[cfg(test)]
+mod sets;

@@ -241,28 +241,46 @@ pub(crate) fn is_listed_whole(alloc: Global, row: &str, want: &str) -> bool {
     is_listed_once(alloc, row, Tree::Whole, want) || is_listed_once(alloc, row, Tree::Whole, want)
 }
 
-/// A file with an option below other text, as a row.
-fn row_of(alloc: Global, above: &str, option: &str) -> Made<String> {
+/// A file with an option below other text, and other files, as a row.
+fn row_of(alloc: Global, above: &str, option: &str, others: &str) -> Made<String> {
     let mut draft = Draft::new(alloc);
     draft.add(above);
     draft.add(option);
     draft.add("\n|");
+    draft.add(others);
     draft.finish()
 }
 
-/// Whether an option below other text of a file names what a listing says, once.
-fn is_listed_below_once(alloc: Global, above: &str, option: &str, want: &str) -> bool {
-    match row_of(alloc, above, option) {
+/// Whether an option below other text of a file, with other files, names what a listing says, once.
+fn is_listed_beside_once(
+    alloc: Global,
+    above: &str,
+    option: &str,
+    others: &str,
+    want: &str,
+) -> bool {
+    match row_of(alloc, above, option, others) {
         Ok(row) => is_listed_once(alloc, row.as_str(), Tree::Added, want),
         Err(_) => false,
     }
 }
 
-/// Whether an option below other text of a file names what a listing says. It is listed again if not, since memory may
-/// have run out.
+/// Whether an option below other text of a file, with other files, names what a listing says. It is listed again if
+/// not, since memory may have run out.
+pub(crate) fn is_listed_beside(
+    alloc: Global,
+    above: &str,
+    option: &str,
+    others: &str,
+    want: &str,
+) -> bool {
+    is_listed_beside_once(alloc, above, option, others, want)
+        || is_listed_beside_once(alloc, above, option, others, want)
+}
+
+/// The same without other files.
 pub(crate) fn is_listed_below(alloc: Global, above: &str, option: &str, want: &str) -> bool {
-    is_listed_below_once(alloc, above, option, want)
-        || is_listed_below_once(alloc, above, option, want)
+    is_listed_beside(alloc, above, option, "", want)
 }
 
 /// Whether this is listed of a row, once.

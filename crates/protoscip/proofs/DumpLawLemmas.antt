@@ -8,7 +8,7 @@ use Rattle.source_tree.specs.MendingLaws.{OneReading}
 use Rattle.scip_build.specs.AsRead.{AreReadIn}
 use Rattle.scip_wire.specs.Decodes.{Decodes}
 use Rattle.protoscip.specs.Indexes.{IsIndexed, IsRefused}
-use Rattle.protoscip.specs.Dump.{source_path, dump_tree, dump_settings, default_choices, IsListing}
+use Rattle.protoscip.specs.Dump.{dump_file, dump_tree, dump_settings, default_choices, IsListing}
 use Rattle.protoscip.specs.DumpLaws.{OneListing, ListedUnlessMemory}
 use Rattle.protoscip.specs.DumpText.{dump_text}
 use Rattle.protoscip.specs.IndexLaws.{AllowOneChoice, OneIndexing, OneIndexingHasNoFault, is_of_tree}
@@ -28,7 +28,8 @@ one_file file first second one is also =
     let path = is.path ∙ sym also.path in
     let bytes = is.bytes ∙ sym also.bytes in
     let flag = is.is_included ∙ sym also.is_included in
-    λ i. record { path = path i; bytes = bytes i; text = text i; is_included = flag i }
+    let mark = is.is_unread ∙ sym also.is_unread in
+    λ i. record { path = path i; bytes = bytes i; text = text i; is_included = flag i; is_unread = mark i }
 
 -- a source's tree is read in one way
 one_tree : OneReading → (dialect : Dialect) (bytes : List ℕ) (tree other : List TreeFile)
@@ -40,7 +41,7 @@ one_tree one All bytes (f ∷ []) [] is also = absurd also
 one_tree one All bytes (f ∷ []) (g ∷ (x ∷ xs)) is also = absurd also.1
 one_tree one All bytes (f ∷ []) (g ∷ []) is also =
     ap (λ (x : TreeFile). x ∷ [])
-    (one_file (record { path = source_path; bytes = bytes; text = bytes; is_included = false }) f g one is.0 also.0)
+    (one_file (dump_file bytes) f g one is.0 also.0)
 
 pub one_listing : OneReading → OneIndexing default_choices default_choices → OneListing
 one_listing reading one dialect bytes listing other is also =
@@ -70,6 +71,8 @@ module _ (reading : OneReading) (accepted : OneIndexingHasNoFault default_choice
       absurd (let same = none dialect bytes listing (fault.Lex number e) is refused in cc)
   listed_unless_memory dialect bytes listing (fault.Syntax number e) is refused =
       absurd (let same = none dialect bytes listing (fault.Syntax number e) is refused in cc)
+  listed_unless_memory dialect bytes listing (fault.Unread number) is refused =
+      absurd (let same = none dialect bytes listing (fault.Unread number) is refused in cc)
   listed_unless_memory dialect bytes listing (fault.Duplicate first second) is refused =
       absurd (let same = none dialect bytes listing (fault.Duplicate first second) is refused in cc)
   listed_unless_memory dialect bytes listing (fault.MissingImport place) is refused =

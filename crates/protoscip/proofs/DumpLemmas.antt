@@ -22,7 +22,7 @@ use Rattle.scip_build.specs.Builds.{IsBuilt, IsBuildFault}
 use Rattle.streams.specs.Readers.{Reader}
 use Rattle.streams.specs.Writers.{SinkOf, Writer, writing}
 use Rattle.scip_build.specs.Files.{FileContents, ReadFile}
-use Rattle.scip_build.specs.Parsed.{IsUnreadable}
+use Rattle.scip_build.specs.Parsed.{IsUnlexed, IsUnreadable}
 use Rattle.scip_build.specs.declared.faulty.Faulty.TheVariants.{Refuse}
 use Rattle.scip_build.specs.ParsedFiles.{HasContents, AreParsedFiles, IsFirstFaulty}
 use Rattle.scip_build.specs.declared.read_form.ReadForm.{ReadForm}
@@ -40,7 +40,7 @@ use Rattle.protoscip.specs.Writing.{IsNotReadBack}
 use Rattle.protoscip.specs.Writing.IsNotReadBack.{reading_lacks_memory, has_no_bytes}
 use Rattle.protoscip.specs.Output.{Writes}
 use Rattle.protoscip.specs.Indexes.{recorded_of}
-use Rattle.protoscip.specs.Dump.{source_path, dump_tree, dump_settings, default_choices, IsListing, IsRefusal, Dumps}
+use Rattle.protoscip.specs.Dump.{dump_file, dump_tree, dump_settings, default_choices, IsListing, IsRefusal, Dumps}
 use Rattle.protoscip.specs.Dump.{LeavesWriter, IsDumped, IsListingOf, IsTreeOfFault, IsTreeOfSource}
 use Rattle.protoscip.specs.declared.fault.Fault.{Fault}
 use Rattle.protoscip.specs.declared.fault.Fault.TheVariants as fault
@@ -53,6 +53,7 @@ refused_of_build allows settings tree workers build.Spawn is = is
 refused_of_build allows settings tree workers build.Memory is = is
 refused_of_build allows settings tree workers (build.File number (file.Lex e)) is = is
 refused_of_build allows settings tree workers (build.File number (file.Syntax e)) is = is
+refused_of_build allows settings tree workers (build.File number file.Unread) is = is
 refused_of_build allows settings tree workers (build.Duplicate first second) is = is
 refused_of_build allows settings tree workers (build.MissingImport place) is = is
 refused_of_build allows settings tree workers (build.Unresolved place) is = is
@@ -66,6 +67,7 @@ module _ (dialect : Dialect) (bytes : List ℕ) (settings : Settings) (tree : Li
   by_refusal fault.Memory is = tt
   by_refusal (fault.Lex number e) is = (tree, read, is)
   by_refusal (fault.Syntax number e) is = (tree, read, is)
+  by_refusal (fault.Unread number) is = (tree, read, is)
   by_refusal (fault.Duplicate first second) is = (tree, read, is)
   by_refusal (fault.MissingImport place) is = (tree, read, is)
   by_refusal (fault.Unresolved place) is = (tree, read, is)
@@ -128,7 +130,7 @@ plain_read = record { facts = plain_form; options = false }
 -- a source that was read isn't too long
 module _ (dialect : Dialect) (bytes : List ℕ) where
   abbrev pub alone : TreeFile
-  alone = record { path = source_path; bytes = bytes; text = bytes; is_included = false }
+  alone = dump_file bytes
 
   short_contents : (contents : Result FileContents FileFault)
       → HasContents Refuse dialect plain_read default_choices zero alone contents → length bytes ≤ max_text_length
@@ -155,18 +157,20 @@ long_tree All bytes long [] read = absurd read
 long_tree All bytes long (f ∷ (g ∷ others)) read = absurd read.1
 long_tree All bytes long (f ∷ []) read =
     let text = long_text bytes f.text long read.0.text in
-    let is : f ≡ record { path = source_path; bytes = bytes; text = bytes; is_included = false } = λ i. record {
+    let is : f ≡ dump_file bytes = λ i. record {
       path = read.0.path i;
       bytes = read.0.bytes i;
       text = text i;
       is_included = read.0.is_included i;
+      is_unread = read.0.is_unread i;
     } in
     ap (λ (x : TreeFile). x ∷ []) is
 
 long_read : (dialect : Dialect) (bytes : List ℕ) → max_text_length < length bytes
     → AreReadIn dialect (dump_tree bytes) (dump_tree bytes)
 long_read (Proto3 custom) bytes long = refl
-long_read All bytes long = (record { path = refl; bytes = refl; text = too_long long; is_included = refl }, tt)
+long_read All bytes long =
+    (record { path = refl; bytes = refl; text = too_long long; is_included = refl; is_unread = refl }, tt)
 
 module _ (dialect : Dialect) (bytes : List ℕ) (long : max_text_length < length (kept_bytes bytes)) where
   long_no_text : (e : LexFault) → IsNoText (kept_bytes bytes) e → IsNoText bytes e
@@ -179,19 +183,24 @@ module _ (dialect : Dialect) (bytes : List ℕ) (long : max_text_length < length
   long_no_text (lexing.BadNumber at) is = is
   long_no_text lexing.Memory is = is
 
-  long_unreadable : (e : FileFault) → IsUnreadable dialect (kept_bytes bytes) e → IsUnreadable dialect bytes e
-  long_unreadable (file.Lex e) (inl none) = inl (long_no_text e none)
-  long_unreadable (file.Lex e) (inr is) = absurd (omega (arith, long, is.0.short))
-  long_unreadable (file.Syntax e) is = absurd (omega (arith, long, is.lexing.text.short))
+  long_unlexed : (e : LexFault) → IsUnlexed dialect (kept_bytes bytes) e → IsUnlexed dialect bytes e
+  long_unlexed e (inl none) = inl (long_no_text e none)
+  long_unlexed e (inr is) = absurd (omega (arith, long, is.0.short))
+
+  long_unreadable : (e : FileFault) → IsUnreadable dialect false (kept_bytes bytes) e
+      → IsUnreadable dialect false bytes e
+  long_unreadable file.Unread is = is
+  long_unreadable (file.Lex e) is = (is.0, long_unlexed e is.1)
+  long_unreadable (file.Syntax e) is = absurd (let text = is.1.lexing.text in omega (arith, long, text.short))
 
   -- the one source is the first that can't be read
   long_faulty : (number : ℕ) (e : FileFault) → IsFirstFaulty dialect (dump_tree (kept_bytes bytes)) number e
       → IsFirstFaulty dialect (dump_tree bytes) number e
   long_faulty zero e is =
       let one : is.file ≡ alone dialect (kept_bytes bytes) = sym (same_Some _ is.file is.numbered) in
-      let faulty = subst (λ (f : TreeFile). IsUnreadable dialect f.text e) one is.faulty.unreadable in
+      let faulty = subst (λ (f : TreeFile). IsUnreadable dialect f.is_unread f.text e) one is.faulty.unreadable in
       record {
-        file = record { path = source_path; bytes = bytes; text = bytes; is_included = false };
+        file = dump_file bytes;
         numbered = refl;
         faulty = record { source = refl; unreadable = long_unreadable e faulty };
         before = λ lesser other less at. absurd (omega arith);
@@ -215,6 +224,7 @@ module _ (dialect : Dialect) (bytes : List ℕ) (long : max_text_length < length
   long_refused fault.Memory is = tt
   long_refused (fault.Lex number e) is = long_fault number (file.Lex e) is
   long_refused (fault.Syntax number e) is = long_fault number (file.Syntax e) is
+  long_refused (fault.Unread number) is = long_fault number file.Unread is
   long_refused (fault.Duplicate first second) is = not_parsed is.1.0 is.1.1
   long_refused (fault.MissingImport place) is = not_parsed is.1.0 is.1.1
   long_refused (fault.Unresolved place) is = not_parsed is.1.0 is.1.1
@@ -243,6 +253,7 @@ module _ (dialect : Dialect) (bytes : List ℕ) (long : max_text_length < length
   long_refusal fault.Memory is = tt
   long_refusal (fault.Lex number e) is = of_kept (fault.Lex number e) is.0 is.1 is.2
   long_refusal (fault.Syntax number e) is = of_kept (fault.Syntax number e) is.0 is.1 is.2
+  long_refusal (fault.Unread number) is = of_kept (fault.Unread number) is.0 is.1 is.2
   long_refusal (fault.Duplicate first second) is = of_kept (fault.Duplicate first second) is.0 is.1 is.2
   long_refusal (fault.MissingImport place) is = of_kept (fault.MissingImport place) is.0 is.1 is.2
   long_refusal (fault.Unresolved place) is = of_kept (fault.Unresolved place) is.0 is.1 is.2
@@ -282,6 +293,7 @@ module _ (dialect : Dialect) (bytes : List ℕ) where
   refused_dumps due fault.Memory is = is
   refused_dumps due (fault.Lex number e) is = is
   refused_dumps due (fault.Syntax number e) is = is
+  refused_dumps due (fault.Unread number) is = is
   refused_dumps due (fault.Duplicate first second) is = is
   refused_dumps due (fault.MissingImport place) is = is
   refused_dumps due (fault.Unresolved place) is = is
@@ -300,6 +312,7 @@ module _ (dialect : Dialect) (bytes : List ℕ) where
   refused_writer sink out due fault.Memory is = refl
   refused_writer sink out due (fault.Lex number e) is = refl
   refused_writer sink out due (fault.Syntax number e) is = refl
+  refused_writer sink out due (fault.Unread number) is = refl
   refused_writer sink out due (fault.Duplicate first second) is = refl
   refused_writer sink out due (fault.MissingImport place) is = refl
   refused_writer sink out due (fault.Unresolved place) is = refl
@@ -318,6 +331,7 @@ more_files fault.Spawn tree others more has = tt
 more_files fault.Memory tree others more has = tt
 more_files (fault.Lex number e) tree others more has = omega (arith, has, more)
 more_files (fault.Syntax number e) tree others more has = omega (arith, has, more)
+more_files (fault.Unread number) tree others more has = omega (arith, has, more)
 more_files (fault.Duplicate first second) tree others more has =
     (omega (arith, has.0, more), omega (arith, has.1, more))
 more_files (fault.MissingImport place) tree others more has = omega (arith, has, more)
@@ -352,6 +366,9 @@ module _ (dialect : Dialect) (bytes : List ℕ) where
   dump_files (fault.Syntax number e) is others some =
       more_files (fault.Syntax number e) is.0 others (one_file is.0 is.1 others some)
       (files_of_build default_choices (dump_settings dialect) is.0 1 (build.File number (file.Syntax e)) is.2)
+  dump_files (fault.Unread number) is others some =
+      more_files (fault.Unread number) is.0 others (one_file is.0 is.1 others some)
+      (files_of_build default_choices (dump_settings dialect) is.0 1 (build.File number file.Unread) is.2)
   dump_files (fault.Duplicate first second) is others some =
       more_files (fault.Duplicate first second) is.0 others (one_file is.0 is.1 others some)
       (files_of_build default_choices (dump_settings dialect) is.0 1 (build.Duplicate first second) is.2)
@@ -413,6 +430,7 @@ module _ {R : Type 0} (dialect : Dialect) (source : Reader R) (tree : List TreeF
   tree_of_fault fault.Memory is = tt
   tree_of_fault (fault.Lex number e) is = is
   tree_of_fault (fault.Syntax number e) is = is
+  tree_of_fault (fault.Unread number) is = is
   tree_of_fault (fault.Duplicate first second) is = is
   tree_of_fault (fault.MissingImport place) is = is
   tree_of_fault (fault.Unresolved place) is = is

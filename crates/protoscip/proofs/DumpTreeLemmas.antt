@@ -32,13 +32,14 @@ is_it file _ (of_included {file = other} counts) = absurd (not_listed counts.bef
 
 module _ (bytes : List ℕ) where
   source : SourceFile
-  source = record { path = source_path; bytes = bytes }
+  source = record { path = source_path; bytes = bytes; is_unread = false }
 
   not_before_itself : file_cmp (in_tree false source) (in_tree false source) ≡ Less → ⊥
   unfolding source
   not_before_itself same = cc
 
-  pub one_source : (files : List TreeFile) → IsTreeOf (record { path = source_path; bytes = bytes } ∷ []) [] files
+  pub one_source : (files : List TreeFile)
+      → IsTreeOf (record { path = source_path; bytes = bytes; is_unread = false } ∷ []) [] files
       → files ≡ dump_tree bytes
   unfolding source IsStrictlySortedBy
   one_source [] tree = absurd
@@ -62,13 +63,14 @@ good_path = record { as_folder = refl; name = codes "input"; ending = refl }
 
 module _ (bytes : List ℕ) where
   abbrev alone : SourceFile
-  alone = record { path = source_path; bytes = bytes }
+  alone = record { path = source_path; bytes = bytes; is_unread = false }
 
   not_bad : (number : ℕ) (file : SourceFile) → slice_get (alone ∷ []) number ≡ Some file → IsGoodPath file.path
   not_bad number file at = subst (λ (f : SourceFile). IsGoodPath f.path) (sym (only alone file number at)) good_path
 
   -- so no fault but want of memory comes
-  pub never_refused : (fault : TreeFault) → MayRefuse (record { path = source_path; bytes = bytes } ∷ []) [] fault
+  pub never_refused : (fault : TreeFault)
+      → MayRefuse (record { path = source_path; bytes = bytes; is_unread = false } ∷ []) [] fault
       → fault ≢ refusal.Memory → ⊥
   never_refused refusal.TooMany is named = omega (arith, is)
   never_refused (refusal.BadPath number) is named = is.first.bad (not_bad number is.first.file is.first.numbered)

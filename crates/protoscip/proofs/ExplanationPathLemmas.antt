@@ -18,7 +18,7 @@ flipped xs ys =
     (λ same. (bytes_eq-Decides xs ys).1 (sym ((bytes_eq-Decides ys xs).0 same)))
 
 no_file : TreeFile
-no_file = record { path = []; bytes = []; text = []; is_included = false }
+no_file = record { path = []; bytes = []; text = []; is_included = false; is_unread = false }
 
 module _ (path : List ℕ) (tree : List TreeFile) (number : ℕ) (within : number < length tree) (found : List ℕ)
     (is : option_map (λ (file : TreeFile). file.path) (slice_get tree number) ≡ Some found) where

@@ -18,6 +18,7 @@ unrefused : (allows : Seen → Choice → Type 0) (settings : Settings) (tree : 
     (e : BuildFault) → IsBuildFault allows (telling settings) tree workers e → MayNotTell workers (fault_of_build e)
 unrefused allows settings tree workers build.Spawn is = telling_lacks_thread is
 unrefused allows settings tree workers build.Memory is = telling_lacks_memory
+unrefused allows settings tree workers (build.File number file.Unread) is = let never = is.0 in absurd cc
 unrefused allows settings tree workers (build.File number (file.Lex e)) is = let never = is.0 in absurd cc
 unrefused allows settings tree workers (build.File number (file.Syntax e)) is = let never = is.0 in absurd cc
 unrefused allows settings tree workers (build.Duplicate first second) is = let never = is.0 in absurd cc

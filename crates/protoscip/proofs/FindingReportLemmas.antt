@@ -38,6 +38,8 @@ use Rattle.protoscip.specs.declared.fault.Fault.{Fault}
 use Rattle.protoscip.specs.declared.fault.Fault.TheVariants as fault
 use Rattle.protoscip.proofs.HeadlineFileLemmas.{files_of_built}
 use Rattle.protoscip.proofs.FindingListLemmas.{filtered}
+use Rattle.protoscip.specs.ToldLines.{told_beside}
+use Rattle.protoscip.proofs.ToldBesideLemmas.{beside_have, beside_rises}
 use Rattle.protoscip.proofs.UnreadLemmas.{with_unread}
 
 -- ---- files
@@ -86,6 +88,7 @@ keys_differ told rising i j d before within same =
 abbrev fault_key : Fault → Key
 fault_key (fault.Lex number e) = ((number, 0), (0, 0))
 fault_key (fault.Syntax number e) = ((number, 0), (0, 0))
+fault_key (fault.Unread number) = ((number, 0), (0, 0))
 fault_key (fault.Duplicate first second) = ((second.file, 0), (0, 0))
 fault_key (fault.MissingImport place) = ((place.file, place.span.start), (place.span.end, 0))
 fault_key (fault.Unresolved place) = ((place.file, place.span.start), (place.span.end, 1))
@@ -97,6 +100,7 @@ fault_key other = ((0, 0), (0, 0))
 key_of_fault : (told : Omission) → fault_key (fault_of_omission told) ≡ told_key told
 key_of_fault (omitted.File number (file.Lex e)) = refl
 key_of_fault (omitted.File number (file.Syntax e)) = refl
+key_of_fault (omitted.File number file.Unread) = refl
 key_of_fault (omitted.Duplicate first second) = refl
 key_of_fault (omitted.MissingImport place) = refl
 key_of_fault (omitted.Unresolved place) = refl
@@ -122,6 +126,7 @@ IsOfFile fault.Spawn = ⊥
 IsOfFile fault.Memory = ⊥
 IsOfFile (fault.Lex number e) = ⊤
 IsOfFile (fault.Syntax number e) = ⊤
+IsOfFile (fault.Unread number) = ⊤
 IsOfFile (fault.Duplicate first second) = ⊤
 IsOfFile (fault.MissingImport place) = ⊤
 IsOfFile (fault.Unresolved place) = ⊤
@@ -137,6 +142,7 @@ IsOfFile (fault.Answer count) = ⊥
 told_of_file : (told : Omission) → IsOfFile (fault_of_omission told)
 told_of_file (omitted.File number (file.Lex e)) = tt
 told_of_file (omitted.File number (file.Syntax e)) = tt
+told_of_file (omitted.File number file.Unread) = tt
 told_of_file (omitted.Duplicate first second) = tt
 told_of_file (omitted.MissingImport place) = tt
 told_of_file (omitted.Unresolved place) = tt
@@ -148,6 +154,7 @@ file_of : (tree : List TreeFile) (told : Omission) → HasFilesOf tree (fault_of
     → HasFile tree (told_key told).0.0
 file_of tree (omitted.File number (file.Lex e)) have = have
 file_of tree (omitted.File number (file.Syntax e)) have = have
+file_of tree (omitted.File number file.Unread) have = have
 file_of tree (omitted.Duplicate first second) have = have.1
 file_of tree (omitted.MissingImport place) have = have
 file_of tree (omitted.Unresolved place) have = have
@@ -184,6 +191,7 @@ key_found : (tree : List TreeFile) (told : Omission)
     → found_key (told_finding tree told) ≡ path_key tree (told_key told)
 key_found tree (omitted.File number (file.Lex e)) = refl
 key_found tree (omitted.File number (file.Syntax e)) = refl
+key_found tree (omitted.File number file.Unread) = refl
 key_found tree (omitted.Duplicate first second) = refl
 key_found tree (omitted.MissingImport place) = refl
 key_found tree (omitted.Unresolved place) = refl
@@ -195,7 +203,7 @@ module _ (tree : List TreeFile) (own : HaveOwnPaths tree) where
   -- a path is that of one file
   one_number : (m n : ℕ) → HasFile tree m → HasFile tree n → path_of tree m ≡ path_of tree n → m ≡ n
   one_number m n first second same =
-      let none : TreeFile = record { path = []; bytes = []; text = []; is_included = false } in
+      let none : TreeFile = record { path = []; bytes = []; text = []; is_included = false; is_unread = false } in
       let a = slice_get-get_or tree m none first in
       let b = slice_get-get_or tree n none second in
       own m n (get_or tree m none) (get_or tree n none) a b
@@ -243,6 +251,7 @@ same_fault fault.Spawn of = absurd of
 same_fault fault.Memory of = absurd of
 same_fault (fault.Lex number e) of = same_number number
 same_fault (fault.Syntax number e) of = same_number number
+same_fault (fault.Unread number) of = same_number number
 same_fault (fault.Duplicate first second) of = same_number second.file
 same_fault (fault.MissingImport place) of = same_place place
 same_fault (fault.Unresolved place) of = same_place place
@@ -283,7 +292,8 @@ come_once allows = record {
       (files_of_built allows settings tree built is);
   of_all = λ settings tree unread built own is apart.
       with_unread tree unread built.told apart
-      (findings_apart tree own built.told is.of_files.kept.told_is.ascends
-      (files_of_built allows settings tree built is));
+      (findings_apart tree own (told_beside unread built.told)
+      (beside_rises unread built.told is.of_files.kept.told_is.ascends)
+      (beside_have tree unread built.told (files_of_built allows settings tree built is)));
   of_refused = λ settings tree built own is. refused_apart own built.told is.of_files.kept.told_is.ascends;
 }

@@ -26,6 +26,7 @@ use Rattle.proto_visibility.specs.Reaches.Reaches.{sees as by_seeing}
 use Rattle.proto_visibility.specs.Reaches.IsReachable.{reached}
 use Rattle.basics.proofs.FirstLemmas.{contained}
 use Rattle.option_link.specs.declared.facts.OptionFacts.{OptionFacts}
+use Rattle.option_link.proofs.PartLemmas.{entity_of_part}
 use Rattle.proto_visibility.specs.Knows.{IsEntityOf as IsNamed}
 use Rattle.proto_visibility.specs.Knows.IsEntityOf.{packaged as named_package, declared as named_declared}
 use Rattle.scip_symbol.specs.Package.{Package, IsPackage}
@@ -172,10 +173,9 @@ module _ (files : List File) (ids : Packages) (origins : HaveOrigins files) (law
     option_entity_is {known} is links _ (of_option {part = part} {entity = entity} names shown) =
         let target = names.is_target in
         let parts = target.parts in
+        let its = entity_of_part files parts names.index part names.part_is in
         part_is (laws.reachable files known source is links text names.option names.target target) parts.known
-        parts.declaration.full_name
-        (parts.skipped + names.index + 1) part (omega arith) (parts.named names.index part names.part_is) entity
-        names.entity_is
+        parts.declaration.full_name its.0 part its.1 its.2 entity names.entity_is
 
     pub entity_is_as : (asked : Option (List OptionFacts)) → LinkedIfAsked asked files source → IsSource files source
         → (o : Occurrence) (entity : Entity) (is_definition : Bool)
@@ -420,7 +420,7 @@ module _ (files : List File) (ids : Packages) (apart : AreApart files ids) (good
         ap (λ (id : Package). text_of id entity)
         (part_home (laws.reachable files known source is_source links text names.option names.target target)
         parts.declaration.full_name _ _ part
-        (parts.named names.index part names.part_is) entity names.entity_is is)
+        (entity_of_part files parts names.index part names.part_is).2 entity names.entity_is is)
 
     pub symbol_is_as : (asked : Option (List OptionFacts)) → LinkedIfAsked asked files source → IsSource files source
         → (chosen : Chosen) (encoding : Encoding) (text : List ℕ) (o : Occurrence)

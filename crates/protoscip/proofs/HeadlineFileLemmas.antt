@@ -89,9 +89,13 @@ module _ (allows : Seen → Choice → Type 0) (settings : Settings) (tree : Lis
       slice_get_within tree number first.file first.numbered
   files_of_build workers (build.File number (file.Syntax e)) (refuse, inl first) =
       slice_get_within tree number first.file first.numbered
+  files_of_build workers (build.File number file.Unread) (refuse, inl first) =
+      slice_get_within tree number first.file first.numbered
   files_of_build workers (build.File number (file.Lex e)) (refuse, inr (parsed, are, is_unread none has)) =
       subst (λ (n : ℕ). number < n) are.one_each (slice_get_within parsed number has.parsed_file has.numbered)
   files_of_build workers (build.File number (file.Syntax e)) (refuse, inr (parsed, are, is_unread none has)) =
+      subst (λ (n : ℕ). number < n) are.one_each (slice_get_within parsed number has.parsed_file has.numbered)
+  files_of_build workers (build.File number file.Unread) (refuse, inr (parsed, are, is_unread none has)) =
       subst (λ (n : ℕ). number < n) are.one_each (slice_get_within parsed number has.parsed_file has.numbered)
   files_of_build workers (build.Duplicate first second) (refuse, (parsed, are, is_duplicate (clashing read clash))) =
       let both = clash_within settings.duplicates (linked_files parsed) first second clash in
@@ -132,6 +136,8 @@ module _ (allows : Seen → Choice → Type 0) (faulty : Faulty) (dialect : Dial
 
   fault_within : (number : ℕ) (fault : FileFault) → HasFault all number fault
       → HasFilesOf tree (fault_of_omission (omitted.File number fault))
+  fault_within number file.Unread has =
+      subst (λ (n : ℕ). number < n) read.one_each (slice_get_within all number has.parsed_file has.numbered)
   fault_within number (file.Lex e) has =
       subst (λ (n : ℕ). number < n) read.one_each (slice_get_within all number has.parsed_file has.numbered)
   fault_within number (file.Syntax e) has =

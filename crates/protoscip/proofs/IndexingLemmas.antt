@@ -117,6 +117,7 @@ module _ {W : Type 0} (allows : Seen → Choice → Type 0) (settings : Settings
   unbuilt sink out build.Memory is = (is, refl)
   unbuilt sink out (build.File number (file.Lex e)) is = (is, refl)
   unbuilt sink out (build.File number (file.Syntax e)) is = (is, refl)
+  unbuilt sink out (build.File number file.Unread) is = (is, refl)
   unbuilt sink out (build.Duplicate first second) is = (is, refl)
   unbuilt sink out (build.MissingImport place) is = (is, refl)
   unbuilt sink out (build.Unresolved place) is = (is, refl)

@@ -28,6 +28,7 @@ fault_of build.Spawn = fault.Spawn
 fault_of build.Memory = fault.Memory
 fault_of (build.File number (file.Lex because)) = fault.Lex number because
 fault_of (build.File number (file.Syntax because)) = fault.Syntax number because
+fault_of (build.File number file.Unread) = fault.Unread number
 fault_of (build.Duplicate first second) = fault.Duplicate first second
 fault_of (build.MissingImport place) = fault.MissingImport place
 fault_of (build.Unresolved place) = fault.Unresolved place
@@ -57,6 +58,8 @@ split allows settings tree workers (fault.Lex number e) is named =
     inr (record { because = build.File number (file.Lex e); is = is; named = λ memory. cc; same = refl })
 split allows settings tree workers (fault.Syntax number e) is named =
     inr (record { because = build.File number (file.Syntax e); is = is; named = λ memory. cc; same = refl })
+split allows settings tree workers (fault.Unread number) is named =
+    inr (record { because = build.File number file.Unread; is = is; named = λ memory. cc; same = refl })
 split allows settings tree workers (fault.Duplicate first second) is named =
     inr (record { because = build.Duplicate first second; is = is; named = λ memory. cc; same = refl })
 split allows settings tree workers (fault.MissingImport place) is named =
@@ -111,6 +114,9 @@ module _ (allows others : Seen → Choice → Type 0) where
   indexed_has_no_fault none settings tree workers recorded bytes (fault.Syntax number e) indexed is =
       absurd (none settings tree workers (built_of indexed.index recorded)
       (build.File number (file.Syntax e)) indexed.built is (λ same. cc))
+  indexed_has_no_fault none settings tree workers recorded bytes (fault.Unread number) indexed is =
+      absurd (none settings tree workers (built_of indexed.index recorded)
+      (build.File number file.Unread) indexed.built is (λ same. cc))
   indexed_has_no_fault none settings tree workers recorded bytes (fault.Duplicate first second) indexed is =
       absurd (none settings tree workers (built_of indexed.index recorded)
       (build.Duplicate first second) indexed.built is (λ same. cc))

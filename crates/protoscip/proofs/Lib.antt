@@ -42,9 +42,11 @@ mod LawLemmas
 -- The lines that a loop appends, one after another
 mod LineLemmas
 -- What a session answers, by where it stops
-mod SessionLemmas
+pub mod SessionLemmas
 -- Parts of a tree are shards of its index
 mod ShardLemmas
+-- What is told beside what couldn't be read
+mod ToldBesideLemmas
 -- What is to be said of an index, by what it lacks
 mod ToldLineOmissionLemmas
 -- Why what is told of a tree can't be had
@@ -53,5 +55,3 @@ mod ToldTreeRules
 mod UnreadLemmas
 -- A use that names a type has a target, so each component of a use of a source names an entity
 mod UseLawLemmas
--- Why an index isn't read back from its bytes
-mod WritingRules

@@ -63,6 +63,7 @@ module _ {R W : Type 0} (manner : Manner) (commands : Reader R) (answers : Write
   unbuilt allows settings tree workers build.Memory is untouched = inl untouched
   unbuilt allows settings tree workers (build.File number (file.Lex e)) is untouched = (is, untouched)
   unbuilt allows settings tree workers (build.File number (file.Syntax e)) is untouched = (is, untouched)
+  unbuilt allows settings tree workers (build.File number file.Unread) is untouched = (is, untouched)
   unbuilt allows settings tree workers (build.Duplicate first second) is untouched = (is, untouched)
   unbuilt allows settings tree workers (build.MissingImport place) is untouched = (is, untouched)
   unbuilt allows settings tree workers (build.Unresolved place) is untouched = (is, untouched)

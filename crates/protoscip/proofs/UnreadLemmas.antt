@@ -2,10 +2,10 @@
 use Rattle.std.proofs.Common.{◌≡◌, ◌≢◌, ◌∙◌, ℕ, Bool, suc, false, true, List, [], ◌∷◌, ◌++◌, map, ap, refl, sym}
 use Rattle.std.proofs.Common.{arith, None, get_or}
 use Rattle.std.specs.Prelude.{unwrap_or}
-use Rattle.std.specs.List.{All}
+use Rattle.std.specs.List.{All, filter}
 use Rattle.std.specs.Str.{bytes_eq}
 use Rattle.std.proofs.lemmas.Bool.{false≢true}
-use Rattle.std.proofs.lemmas.List.Elements.{All-append, All-cons, All-head, All-map, All-nil, All-tail}
+use Rattle.std.proofs.lemmas.List.Elements.{All-append, All-cons, All-head, All-map, All-nil, All-tail, filter_passes}
 use Rattle.std.proofs.lemmas.List.Kept.{AllPairs-cons}
 use Rattle.std.proofs.lemmas.Slice.Eq.{bytes_eq-Decides}
 use Rattle.fault_reports.specs.Findings.{Found, FoundPlace}
@@ -14,14 +14,15 @@ use Rattle.proto_lex.specs.declared.fault.LexFault.TheVariants as lexing
 use Rattle.proto_parse.specs.fault.SyntaxFault.{SyntaxFault}
 use Rattle.proto_parse.specs.fault.SyntaxFault.TheVariants as parsing
 use Rattle.source_tree.specs.Files.{TreeFile}
+use Rattle.scip_build.specs.declared.fault.FileFault.TheVariants as file
 use Rattle.scip_build.specs.declared.omission.Omission.{Omission}
+use Rattle.scip_build.specs.declared.omission.Omission.TheVariants as omitted
 use Rattle.protoscip.specs.FaultTexts.{lex_text, name_of, syntax_text}
 use Rattle.protoscip.specs.FindingLaws.{AreApart, bytes_of}
 use Rattle.protoscip.specs.Findings.{all_findings, told_finding, told_findings}
 use Rattle.protoscip.specs.Faults.{fault_of_omission}
+use Rattle.protoscip.specs.ToldLines.{is_read, told_beside}
 use Rattle.protoscip.specs.Unread.{PathUnread, unread_finding, unread_name}
-use Rattle.protoscip.specs.declared.fault.Fault.{Fault}
-use Rattle.protoscip.specs.declared.fault.Fault.TheVariants as fault
 
 -- ---- no fault has one of its names
 
@@ -50,29 +51,26 @@ syntax_unlike (parsing.TooDeep at) = (refl, refl)
 syntax_unlike (parsing.Grammar at) = (refl, refl)
 syntax_unlike parsing.Memory = (refl, refl)
 
-unlike : (f : Fault) → IsOther (name_of f)
-unlike fault.Spawn = (refl, refl)
-unlike fault.Memory = (refl, refl)
-unlike (fault.Lex number e) = lex_unlike e
-unlike (fault.Syntax number e) = syntax_unlike e
-unlike (fault.Duplicate first second) = (refl, refl)
-unlike (fault.MissingImport place) = (refl, refl)
-unlike (fault.Unresolved place) = (refl, refl)
-unlike (fault.Ambiguous place) = (refl, refl)
-unlike (fault.OptionGap place) = (refl, refl)
-unlike (fault.Uncertain place behind) = (refl, refl)
-unlike fault.TooLarge = (refl, refl)
-unlike (fault.Write count) = (refl, refl)
-unlike fault.Read = (refl, refl)
-unlike (fault.Answer count) = (refl, refl)
+unlike : (told : Omission) → is_read told ≡ true → IsOther (name_of (fault_of_omission told))
+unlike (omitted.File number file.Unread) read = absurd (false≢true read)
+unlike (omitted.File number (file.Lex e)) read = lex_unlike e
+unlike (omitted.File number (file.Syntax e)) read = syntax_unlike e
+unlike (omitted.Duplicate first second) read = (refl, refl)
+unlike (omitted.MissingImport place) read = (refl, refl)
+unlike (omitted.Unresolved place) read = (refl, refl)
+unlike (omitted.Ambiguous place) read = (refl, refl)
+unlike (omitted.OptionGap place) read = (refl, refl)
+unlike (omitted.Uncertain place behind) read = (refl, refl)
 
 -- a finding has another name
 abbrev HasOther : Found → Type 0
 HasOther found = IsOther found.name
 
-have_other : (tree : List TreeFile) (told : List Omission) → All HasOther (told_findings tree told)
+have_other : (tree : List TreeFile) (told : List Omission) → All HasOther (told_findings tree (filter is_read told))
 have_other tree told =
-    All-map HasOther (told_finding tree) told (λ i d within. unlike (fault_of_omission (get_or told i d)))
+    let read = filter is_read told in
+    All-map HasOther (told_finding tree) read
+    (λ i d within. unlike (get_or read i d) (filter_passes is_read told i d within))
 
 -- ---- none is alike
 
@@ -125,6 +123,7 @@ before_apart (p ∷ paths) others apart also named =
 
 pub with_unread : (tree : List TreeFile) (unread : List PathUnread) (told : List Omission)
     → AreApart (map bytes_of unread)
-    → AreApart (told_findings tree told) → AreApart (all_findings tree unread told)
-with_unread tree unread told apart also =
-    before_apart unread (told_findings tree told) apart also (have_other tree told)
+    → AreApart (told_findings tree (told_beside unread told)) → AreApart (all_findings tree unread told)
+with_unread tree [] told apart also = also
+with_unread tree (first ∷ others) told apart also =
+    before_apart (first ∷ others) (told_findings tree (filter is_read told)) apart also (have_other tree told)

@@ -31,9 +31,10 @@ use Rattle.scip_model.specs.Named.{NamesIn, IsNamedAs, declaration_in, home_of_f
 use Rattle.scip_model.specs.Options.{NamesInOption}
 use Rattle.option_link.specs.declared.facts.OptionFacts.{OptionFacts}
 use Rattle.option_link.specs.declared.target.OptionTarget.{OptionTarget}
+use Rattle.option_link.specs.Contexts.{behind_spelled}
 use Rattle.option_link.specs.Found.{NamesOuterParts}
 use Rattle.option_link.proofs.FitLemmas.{has_parts}
-use Rattle.option_link.proofs.PartLemmas.{parts_by}
+use Rattle.option_link.proofs.PartLemmas.{entity_of_part, parts_by}
 use Rattle.protoscip.specs.Headline.{IsComponentInOption}
 use Rattle.protoscip.specs.UseLaws.{EachUseHasATarget, EachOptionNameHasParts}
 
@@ -125,14 +126,15 @@ each_option_name_has_parts fronts filled files origins known file text option nu
     let stands = has.stands in
     let few = has.few in
     let count = length name.name.components in
-    let skipped = length (components_of d.full_name) - count in
+    let behind = behind_spelled names.names in
+    let skipped = length (components_of d.full_name) - (count + behind) in
     let facts = stands.facts in
     let outer = are_each
     (λ j part. IsNamed at.file facts (prefix_of d.full_name (skipped + j + 1)) (skipped + j + 1) part) (count - 1)
     (λ j within. front_of fronts at.file facts (origins at.file facts stands.known) d
     (contained facts.declarations at.index d stands.listed) (skipped + j + 1) (omega arith)
     (omega (arith, within, few))) in
-    let before : NamesOuterParts files name at outer.list = record {
+    let before : NamesOuterParts files name at behind outer.list = record {
       declaration = d;
       stands = stands;
       skipped = skipped;
@@ -141,7 +143,7 @@ each_option_name_has_parts fronts filled files origins known file text option nu
       named = outer.each;
     } in
     let all = outer.list ++ link.Declared at.file at.index ∷ [] in
-    (all, parts_by files name at outer.list before all refl)
+    (all, parts_by files name at outer.list behind before all refl)
 
 -- ---- the components of a source's uses
 
@@ -192,7 +194,7 @@ module _ (files : List File) (ids : Packages) (source : ℕ) where
       let among = has.component in
       let part = item_at parts.0 among.0 (omega (arith, among.1, are.one_each)) in
       let entity = named_as has.at.file are.facts are.known are.declaration.full_name _ _ part.0
-      (are.named among.0 part.0 part.1) in (
+      (entity_of_part files are among.0 part.0 part.1).2 in (
         part.0,
         entity.0,
         record {

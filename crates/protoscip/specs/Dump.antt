@@ -29,9 +29,14 @@ use Rattle.protoscip.specs.declared.fault.Fault.TheVariants.{Memory, Read, Write
 abbrev pub source_path : List ℕ
 source_path = codes "input.proto"
 
+-- the one file of such a tree
+abbrev pub dump_file : List ℕ → TreeFile
+dump_file bytes =
+    record { path = source_path; bytes = bytes; text = bytes; is_included = false; is_unread = false }
+
 -- its tree: only this source
 abbrev pub dump_tree : List ℕ → List TreeFile
-dump_tree bytes = record { path = source_path; bytes = bytes; text = bytes; is_included = false } ∷ []
+dump_tree bytes = dump_file bytes ∷ []
 
 -- what it accepts if nothing else is said: proto3 without custom options
 abbrev pub plain_dialect : Dialect

@@ -9,10 +9,10 @@ use Rattle.proto_parse.specs.FaultNames.{syntax_offset}
 use Rattle.scip_build.specs.declared.omission.Omission.{Omission}
 use Rattle.protoscip.specs.FaultTexts.{name_of}
 use Rattle.protoscip.specs.Faults.{fault_of_omission}
-use Rattle.protoscip.specs.Lines.{plain_line, line_at, placed_line}
+use Rattle.protoscip.specs.Lines.{plain_line, path_line, line_at, placed_line}
 use Rattle.protoscip.specs.declared.fault.Fault.{Fault}
-use Rattle.protoscip.specs.declared.fault.Fault.TheVariants.{Spawn, Memory, Lex, Syntax, Duplicate, MissingImport}
-use Rattle.protoscip.specs.declared.fault.Fault.TheVariants.{Unresolved, Ambiguous, OptionGap, Uncertain}
+use Rattle.protoscip.specs.declared.fault.Fault.TheVariants.{Spawn, Memory, Unread, Lex, Syntax, Duplicate}
+use Rattle.protoscip.specs.declared.fault.Fault.TheVariants.{MissingImport, Unresolved, Ambiguous, OptionGap, Uncertain}
 use Rattle.protoscip.specs.declared.fault.Fault.TheVariants.{TooLarge, Write, Read, Answer}
 
 -- ---- lines
@@ -35,6 +35,8 @@ uncertain_line path at behind =
 -- the line of a fault, over this tree, with words before the path of the file at fault: `skipped` if the file is left
 -- out for it, and `unresolved` if it only has an import, a use or an option without a target
 abbrev pub line_with : (skipped unresolved : List ℕ) → List TreeFile → Fault → List ℕ
+line_with skipped unresolved tree (Unread number) =
+    path_line (skipped ++ path_of tree number) (name_of (Unread number))
 line_with skipped unresolved tree (Lex number fault) =
     placed_line (skipped ++ path_of tree number) (lex_offset fault) (name_of (Lex number fault))
 line_with skipped unresolved tree (Syntax number fault) =
@@ -66,6 +68,7 @@ HasFile tree number = number < length tree
 abbrev pub HasFilesOf : List TreeFile → Fault → Type 0
 HasFilesOf tree Spawn = ⊤
 HasFilesOf tree Memory = ⊤
+HasFilesOf tree (Unread number) = HasFile tree number
 HasFilesOf tree (Lex number fault) = HasFile tree number
 HasFilesOf tree (Syntax number fault) = HasFile tree number
 HasFilesOf tree (Duplicate first second) = HasFile tree first.file × HasFile tree second.file

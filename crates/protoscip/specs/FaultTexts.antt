@@ -8,8 +8,8 @@ use Rattle.proto_parse.specs.FaultNames.{syntax_name}
 use Rattle.proto_parse.specs.fault.SyntaxFault.{SyntaxFault}
 use Rattle.proto_parse.specs.fault.SyntaxFault.TheVariants as parsing
 use Rattle.protoscip.specs.declared.fault.Fault.{Fault}
-use Rattle.protoscip.specs.declared.fault.Fault.TheVariants.{Spawn, Memory, Lex, Syntax, Duplicate, MissingImport}
-use Rattle.protoscip.specs.declared.fault.Fault.TheVariants.{Unresolved, Ambiguous, OptionGap, Uncertain}
+use Rattle.protoscip.specs.declared.fault.Fault.TheVariants.{Spawn, Memory, Unread, Lex, Syntax, Duplicate}
+use Rattle.protoscip.specs.declared.fault.Fault.TheVariants.{MissingImport, Unresolved, Ambiguous, OptionGap, Uncertain}
 use Rattle.protoscip.specs.declared.fault.Fault.TheVariants.{TooLarge, Write, Read, Answer}
 use Rattle.protoscip.specs.declared.statuses.TheConstants.{MEMORY_STATUS, SOURCES_STATUS, STREAM_STATUS}
 
@@ -78,6 +78,7 @@ syntax_sentence fault = (syntax_text fault).sentence
 abbrev pub text_of : Fault → FaultText
 text_of Spawn = said (codes "Spawn") (codes "no thread could be started; `--workers 1` needs none") MEMORY_STATUS
 text_of Memory = lacking (codes "Memory")
+text_of (Unread number) = refused (codes "Unreadable") (codes "it can't be read")
 text_of (Lex number fault) = lex_text fault
 text_of (Syntax number fault) = syntax_text fault
 text_of (Duplicate first second) = refused (codes "Duplicate") (codes "this full name is given already")

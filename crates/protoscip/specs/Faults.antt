@@ -11,12 +11,13 @@ use Rattle.scip_query.specs.declared.answer_fault.AnswerFault.TheVariants as ans
 use Rattle.scip_wire.specs.declared.write_fault.WriteFault.{WriteFault}
 use Rattle.scip_wire.specs.declared.write_fault.WriteFault.TheVariants as writing
 use Rattle.protoscip.specs.declared.fault.Fault.{Fault}
-use Rattle.protoscip.specs.declared.fault.Fault.TheVariants.{Spawn, Memory, Lex, Syntax, Duplicate, MissingImport}
-use Rattle.protoscip.specs.declared.fault.Fault.TheVariants.{Unresolved, Ambiguous, OptionGap, Uncertain}
+use Rattle.protoscip.specs.declared.fault.Fault.TheVariants.{Spawn, Memory, Unread, Lex, Syntax, Duplicate}
+use Rattle.protoscip.specs.declared.fault.Fault.TheVariants.{MissingImport, Unresolved, Ambiguous, OptionGap, Uncertain}
 use Rattle.protoscip.specs.declared.fault.Fault.TheVariants.{TooLarge, Write, Read, Answer}
 
 -- why the file with this number can't be read
 abbrev pub fault_of_file : ℕ → FileFault → Fault
+fault_of_file number file.Unread = Unread number
 fault_of_file number (file.Lex fault) = Lex number fault
 fault_of_file number (file.Syntax fault) = Syntax number fault
 

@@ -16,10 +16,10 @@ use Rattle.protoscip.specs.Explanations.{bytes_of, imported, sentence_in}
 use Rattle.protoscip.specs.FaultLines.{path_of}
 use Rattle.protoscip.specs.FaultTexts.{name_of}
 use Rattle.protoscip.specs.Faults.{fault_of_omission}
-use Rattle.protoscip.specs.ToldLines.{is_import, is_skipped, is_skipped_source, is_use, left_out}
+use Rattle.protoscip.specs.ToldLines.{is_import, is_skipped, is_skipped_source, is_use, left_out, told_beside}
 use Rattle.protoscip.specs.Unread.{PathUnread, unread_finding}
 use Rattle.protoscip.specs.declared.fault.Fault.{Fault}
-use Rattle.protoscip.specs.declared.fault.Fault.TheVariants.{Lex, Syntax, Duplicate, MissingImport}
+use Rattle.protoscip.specs.declared.fault.Fault.TheVariants.{Unread, Lex, Syntax, Duplicate, MissingImport}
 use Rattle.protoscip.specs.declared.fault.Fault.TheVariants.{Unresolved, Ambiguous, OptionGap, Uncertain}
 
 -- ---- a finding
@@ -40,6 +40,7 @@ place_of_span tree place = place_in tree place.file (Some place.span.start) (Som
 
 -- where a fault is: of two places with one full name it is the second
 abbrev pub place_of : List TreeFile → Fault → Option FoundPlace
+place_of tree (Unread number) = Some (place_in tree number None None)
 place_of tree (Lex number fault) = Some (place_in tree number (lex_offset fault) None)
 place_of tree (Syntax number fault) = Some (place_in tree number (syntax_offset fault) None)
 place_of tree (Duplicate first second) = Some (place_of_span tree second)
@@ -92,7 +93,7 @@ told_findings tree told = map (told_finding tree) told
 
 -- and before it what couldn't be read below the folders of the run
 abbrev pub all_findings : List TreeFile → (unread : List PathUnread) → List Omission → List Found
-all_findings tree unread told = map unread_finding unread ++ told_findings tree told
+all_findings tree unread told = map unread_finding unread ++ told_findings tree (told_beside unread told)
 
 -- ---- the findings of a run that is refused
 
@@ -102,6 +103,7 @@ faults_of told = map fault_of_omission told
 
 -- the file with this number would be left out for it
 abbrev pub leaves_out : (number : ℕ) → Fault → Bool
+leaves_out number (Unread other) = nat_eq number other
 leaves_out number (Lex other fault) = nat_eq number other
 leaves_out number (Syntax other fault) = nat_eq number other
 leaves_out number (Duplicate first second) = nat_eq number second.file
@@ -129,6 +131,7 @@ is_uncertain_at place fault = false
 
 -- the second tells of the same file, import, use or option as the first
 abbrev pub tells_same : Fault → Fault → Bool
+tells_same (Unread number) other = leaves_out number other
 tells_same (Lex number fault) other = leaves_out number other
 tells_same (Syntax number fault) other = leaves_out number other
 tells_same (Duplicate first second) other = leaves_out second.file other

@@ -8,14 +8,15 @@ use Rattle.scip_build.specs.declared.settings.Settings.{Settings}
 use Rattle.protoscip.specs.Indexes.{IsIndexed, IsRefused}
 use Rattle.protoscip.specs.declared.recorded.Recorded.{Recorded}
 use Rattle.protoscip.specs.declared.fault.Fault.{Fault}
-use Rattle.protoscip.specs.declared.fault.Fault.TheVariants.{Spawn, Memory, Lex, Syntax, Duplicate, MissingImport}
-use Rattle.protoscip.specs.declared.fault.Fault.TheVariants.{Unresolved, Ambiguous, OptionGap, Uncertain}
+use Rattle.protoscip.specs.declared.fault.Fault.TheVariants.{Spawn, Memory, Unread, Lex, Syntax, Duplicate}
+use Rattle.protoscip.specs.declared.fault.Fault.TheVariants.{MissingImport, Unresolved, Ambiguous, OptionGap, Uncertain}
 use Rattle.protoscip.specs.declared.fault.Fault.TheVariants.{TooLarge, Write, Read, Answer}
 
 -- Whether a fault is one of the tree. The others are lack of memory or of a thread, and a failed read or write.
 abbrev pub is_of_tree : Fault → Bool
 is_of_tree Spawn = false
 is_of_tree Memory = false
+is_of_tree (Unread number) = true
 is_of_tree (Lex number fault) = true
 is_of_tree (Syntax number fault) = true
 is_of_tree (Duplicate first second) = true

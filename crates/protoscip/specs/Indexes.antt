@@ -17,8 +17,8 @@ use Rattle.scip_wire.specs.Decodes.{Decodes}
 use Rattle.scip_wire.specs.Spelling.{spelling_of, max_index_len}
 use Rattle.protoscip.specs.declared.recorded.Recorded.{Recorded}
 use Rattle.protoscip.specs.declared.fault.Fault.{Fault}
-use Rattle.protoscip.specs.declared.fault.Fault.TheVariants.{Spawn, Memory, Lex, Syntax, Duplicate, MissingImport}
-use Rattle.protoscip.specs.declared.fault.Fault.TheVariants.{Unresolved, Ambiguous, OptionGap, Uncertain}
+use Rattle.protoscip.specs.declared.fault.Fault.TheVariants.{Spawn, Memory, Unread, Lex, Syntax, Duplicate}
+use Rattle.protoscip.specs.declared.fault.Fault.TheVariants.{MissingImport, Unresolved, Ambiguous, OptionGap, Uncertain}
 use Rattle.protoscip.specs.declared.fault.Fault.TheVariants.{TooLarge, Write, Read, Answer}
 
 -- the bytes of an index: its spelling, which isn't too long, and which decodes to it and to no other index
@@ -50,6 +50,8 @@ pub record IsIndexed (allows : Seen → Choice → Type 0) (settings : Settings)
 abbrev pub IsRefused : (allows : Seen → Choice → Type 0) → Settings → List TreeFile → (workers : ℕ) → Fault → Type 0
 IsRefused allows settings tree workers Spawn = 1 < workers
 IsRefused allows settings tree workers Memory = ⊤
+IsRefused allows settings tree workers (Unread number) =
+    IsBuildFault allows settings tree workers (build.File number file.Unread)
 IsRefused allows settings tree workers (Lex number fault) =
     IsBuildFault allows settings tree workers (build.File number (file.Lex fault))
 IsRefused allows settings tree workers (Syntax number fault) =

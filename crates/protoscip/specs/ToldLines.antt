@@ -1,12 +1,13 @@
 -- What is reported, on standard error, of what an index lacks: a line for each thing, and one with their numbers.
 -- (The texts are this project's own.)
 use Rattle.std.specs.Prelude.{◌≡◌, ℕ, ◌+◌, ◌-◌, Bool, true, false, List, [], ◌∷◌, ◌++◌, length, nat_lt, codes}
-use Rattle.std.specs.Prelude.{Option, Some, None}
+use Rattle.std.specs.Prelude.{Option, Some, None, ◌&&◌}
 use Rattle.std.specs.Fmt.{decimal}
-use Rattle.std.specs.List.{count_by}
+use Rattle.std.specs.List.{count_by, filter}
 use Rattle.source_tree.specs.Files.{TreeFile}
 use Rattle.source_tree.specs.Trees.{IsSourceCount}
 use Rattle.proto_parse.specs.dialect.Dialect.{Dialect}
+use Rattle.scip_build.specs.declared.fault.FileFault.TheVariants as file
 use Rattle.scip_build.specs.declared.omission.Omission.{Omission}
 use Rattle.scip_build.specs.declared.omission.Omission.TheVariants as omitted
 use Rattle.protoscip.specs.Explanations.{IsExplained}
@@ -92,9 +93,28 @@ IsTextOfOmissions explain tree (first ∷ others) text =
 
 -- ---- with what couldn't be read
 
+-- It isn't told of a file that couldn't be read when its tree was made. Such a file is among what couldn't be read, if
+-- that is told.
+abbrev pub is_read : Omission → Bool
+is_read (omitted.File number file.Unread) = false
+is_read omission = true
+
+-- so this is told beside what couldn't be read
+abbrev pub told_beside : (unread : List PathUnread) → List Omission → List Omission
+told_beside [] told = told
+told_beside (first ∷ others) told = filter is_read told
+
+abbrev pub is_skipped_read : Omission → Bool
+is_skipped_read omission = is_read omission && is_skipped omission
+
+-- a file is left out, and isn't among what couldn't be read
+abbrev pub is_left_beside : (unread : List PathUnread) → Omission → Bool
+is_left_beside [] = is_skipped
+is_left_beside (first ∷ others) = is_skipped_read
+
 -- how many are left out, with these
 abbrev pub left_out : (unread : List PathUnread) → List Omission → ℕ
-left_out unread told = length unread + count_by is_skipped told
+left_out unread told = length unread + count_by (is_left_beside unread) told
 
 -- the numbers: what couldn't be read is skipped
 abbrev pub counts_line_with : (sources : ℕ) → (unread : List PathUnread) → List Omission → List ℕ
@@ -106,7 +126,7 @@ counts_line_with sources unread told =
 abbrev pub IsToldTextWith : (explain : Option Dialect) → List TreeFile → (sources : ℕ) → (unread : List PathUnread)
     → List Omission → (text : List ℕ) → Type 0
 IsToldTextWith explain tree sources unread told text =
-    (lines : List ℕ) × AreLines explain tree told lines
+    (lines : List ℕ) × AreLines explain tree (told_beside unread told) lines
     × (text ≡ unread_lines explain unread ++ (lines ++ counts_line_with sources unread told))
 
 -- what is reported of an index that lacks this: nothing if nothing is lacking, else all of it

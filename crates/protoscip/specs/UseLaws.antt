@@ -9,6 +9,7 @@ use Rattle.proto_options.specs.declared.options.FileOption.{FileOption}
 use Rattle.proto_visibility.specs.declared.lookup.Entity.{Entity}
 use Rattle.option_link.specs.declared.facts.OptionFacts.{OptionFacts}
 use Rattle.option_link.specs.declared.place.DeclaredPlace.{DeclaredPlace}
+use Rattle.option_link.specs.Contexts.{behind_spelled}
 use Rattle.option_link.specs.OptionNames.{NamesParts, NamesPlace}
 
 -- A use that names a type has a target: each of its components names an entity.
@@ -21,5 +22,5 @@ EachUseHasATarget = (files : List File) → HaveOrigins files → (file : ℕ) (
 abbrev pub EachOptionNameHasParts : Type 0
 EachOptionNameHasParts = (files : List File) → HaveOrigins files → (known : List OptionFacts) (file : ℕ)
     (text : List ℕ) (option : FileOption) (number : ℕ) (name : OptionName) (at : DeclaredPlace)
-    → NamesPlace files known file text option number name at
-    → (parts : List Entity) × NamesParts files name at parts
+    → (names : NamesPlace files known file text option number name at)
+    → (parts : List Entity) × NamesParts files name at (behind_spelled names.names) parts

@@ -67,7 +67,13 @@ pub fn dump_tree(alloc: Global, bytes: Vec<u8>) -> Result<Tree, AllocError>
     ensures { IfOk result (λ tree. tree ≡ dump_tree bytes.items) }
 {
     let path = String::from_str(alloc, SOURCE_PATH)?;
-    let sources = vec![in alloc; Source { path, bytes }]?;
+    let sources = vec![in alloc;
+        Source {
+            path,
+            bytes,
+            is_unread: false
+        },
+    ]?;
     match Tree::new(alloc, sources) {
         Ok(tree) => Ok(tree),
         Err((_, fault)) => match fault {
@@ -114,7 +120,7 @@ fn one_worker() -> Workers
 fn listing_of_index(alloc: Global, index: Index) -> Result<String, Fault>
     ensures { MatchResult result (λ listing. IsListingOf index (string_bytes listing)) (IsNotReadBack index) }
 {
-    let read = read_back(alloc, index)?;
+    let read = read_back(index)?;
     let listing = dump_text(alloc, &read)?;
     Ok(listing)
 }

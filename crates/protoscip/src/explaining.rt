@@ -134,6 +134,7 @@ fn hints_of(
         Fault::Syntax(file, fault) => { hints_at(alloc, tree.text(*file), fault, dialect) }
         Fault::Spawn
         | Fault::Memory
+        | Fault::Unread(_)
         | Fault::Lex(..)
         | Fault::Duplicate(..)
         | Fault::MissingImport(_)
@@ -179,7 +180,12 @@ fn push_explanation(
         Fault::Ambiguous(place) => push_at_place(alloc, out, counter, place, sentence),
         Fault::OptionGap(place) => push_at_place(alloc, out, counter, place, sentence),
         Fault::Uncertain(place, _) => push_at_place(alloc, out, counter, place, sentence),
-        Fault::Spawn | Fault::TooLarge | Fault::Write(_) | Fault::Read | Fault::Answer(_) => {
+        Fault::Spawn
+        | Fault::Unread(_)
+        | Fault::TooLarge
+        | Fault::Write(_)
+        | Fault::Read
+        | Fault::Answer(_) => {
             out.push_str("\n")?;
             out.push_str(sentence)
         }

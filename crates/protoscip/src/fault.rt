@@ -24,8 +24,11 @@ pub enum Fault {
     /// Memory ran out.
     #[error("memory ran out")]
     Memory,
-    /// The number of a file, and why its bytes are no text, or a text without a lexing. It is the first source that
-    /// can't be read; if all can, the first included file that some source reaches and that can't.
+    /// The number of a file that its tree has without what it holds. It is the first source that can't be read; if all
+    /// can, the first included file that some source reaches and that can't.
+    #[error("file {0} can't be read")]
+    Unread(usize),
+    /// The number of that file, and why its bytes are no text, or a text without a lexing.
     #[error("in file {0}: {1}")]
     Lex(usize, LexFault),
     /// The number of that file, and why the tokens of its text derive no tree.
@@ -88,6 +91,7 @@ impl From<BuildFault> for Fault {
         match fault {
             BuildFault::Spawn => Fault::Spawn,
             BuildFault::Memory => Fault::Memory,
+            BuildFault::File(file, FileFault::Unread) => Fault::Unread(file),
             BuildFault::File(file, FileFault::Lex(fault)) => Fault::Lex(file, fault),
             BuildFault::File(file, FileFault::Syntax(fault)) => Fault::Syntax(file, fault),
             BuildFault::Duplicate(first, second) => Fault::Duplicate(first, second),
@@ -106,6 +110,7 @@ impl From<Omission> for Fault {
 
     fn from(omission: Omission) -> Fault {
         match omission {
+            Omission::File(file, FileFault::Unread) => Fault::Unread(file),
             Omission::File(file, FileFault::Lex(fault)) => Fault::Lex(file, fault),
             Omission::File(file, FileFault::Syntax(fault)) => Fault::Syntax(file, fault),
             Omission::Duplicate(first, second) => Fault::Duplicate(first, second),

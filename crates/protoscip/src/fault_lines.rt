@@ -5,7 +5,7 @@ ghost use Rattle.protoscip.specs.FaultLines.{HasFile, HasFilesOf, path_of, dupli
 ghost use Rattle.protoscip.specs.Lines.{line_at};
 
 use crate::fault::Fault;
-use crate::lines::{line_at, placed_with, plain_line};
+use crate::lines::{line_at, path_with, placed_with, plain_line};
 use proto_link::FilePlace;
 use source_tree::Tree;
 use std::alloc::{AllocError, Global};
@@ -37,6 +37,7 @@ pub(crate) fn line_with(
 {
     let name = fault.name();
     match fault {
+        Fault::Unread(file) => path_with(alloc, skipped, path_of(tree, *file), name),
         Fault::Lex(file, fault) => {
             placed_with(alloc, skipped, path_of(tree, *file), fault.offset(), name)
         }

@@ -124,6 +124,7 @@ impl Fault {
                 said("Spawn", sentence, MEMORY_STATUS)
             }
             Fault::Memory => lacking("Memory"),
+            Fault::Unread(_) => refused("Unreadable", "it can't be read"),
             Fault::Lex(_, fault) => lex_text(fault),
             Fault::Syntax(_, fault) => syntax_text(fault),
             Fault::Duplicate(..) => refused("Duplicate", "this full name is given already"),

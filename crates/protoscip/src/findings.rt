@@ -31,11 +31,12 @@ ghost use Rattle.protoscip.specs.Findings.{
   told_finding,
   told_findings,
 };
+ghost use Rattle.protoscip.specs.ToldLines.{told_beside};
 
 use crate::fault::Fault;
 use crate::sentences::{imported, sentence_in};
 use crate::telling::{
-    count_imports, count_left_out, count_skipped, count_skipped_sources, count_uses,
+    count_imports, count_left_out, count_skipped, count_skipped_sources, count_uses, told_read,
 };
 use crate::tree_counter::TreeCounter;
 use crate::unread::{UnreadPath, unread_findings};
@@ -81,6 +82,7 @@ fn place_of<'a>(counter: &mut TreeCounter<'a>, fault: &Fault) -> Option<Place<'a
     ensures same { counter.new ≡ counter.old }
 {
     match fault {
+        Fault::Unread(file) => Some(counter.place_in(*file, None, None)),
         Fault::Lex(file, fault) => Some(counter.place_in(*file, fault.offset(), None)),
         Fault::Syntax(file, fault) => Some(counter.place_in(*file, fault.offset(), None)),
         Fault::Duplicate(_, second) => Some(place_of_span(counter, second)),
@@ -202,8 +204,27 @@ pub fn told_findings<'a>(
     Ok(findings)
 }
 
+/// The findings of what is told beside what couldn't be read.
+fn findings_beside<'a>(
+    alloc: Global,
+    tree: &'a Tree,
+    unread: &[UnreadPath],
+    told: &[Omission],
+) -> Result<Vec<Finding<'a>>, AllocError>
+    requires { HaveFilesOf tree.now told.now }
+    ensures { IfOk result (λ findings. findings.items ≡ told_findings tree.now (told_beside unread.now told.now)) }
+{
+    match unread {
+        [] => told_findings(alloc, tree, told),
+        [_, ..] => {
+            let read = told_read(alloc, told)?;
+            told_findings(alloc, tree, read.as_slice())
+        }
+    }
+}
+
 /// The findings of what is told of an index of the tree, and before these one for each path that couldn't be read and
-/// was left out.
+/// was left out: a file of the tree among them is told there alone.
 ///
 /// The file numbers in what is told have to be below the tree's `file_count`, as `told_text` asks it. An error means
 /// that memory was refused.
@@ -217,7 +238,7 @@ pub fn all_findings<'a>(
     ensures { IfOk result (λ findings. findings.items ≡ all_findings tree.now unread.now told.now) }
 {
     let mut findings = unread_findings(alloc, unread)?;
-    let mut others = told_findings(alloc, tree, told)?;
+    let mut others = findings_beside(alloc, tree, unread, told)?;
     findings.append(&mut others)?;
     Ok(findings)
 }
@@ -238,6 +259,7 @@ fn leaves_out(number: usize, fault: &Fault) -> bool
     ensures { result ≡ leaves_out number fault.now }
 {
     match fault {
+        Fault::Unread(other) => number == *other,
         Fault::Lex(other, _) | Fault::Syntax(other, _) => number == *other,
         Fault::Duplicate(_, second) => number == second.file,
         _ => false,
@@ -297,6 +319,7 @@ fn tells_same(fault: &Fault, other: &Fault) -> bool
     ensures { result ≡ tells_same fault.now other.now }
 {
     match fault {
+        Fault::Unread(number) => leaves_out(*number, other),
         Fault::Lex(number, _) | Fault::Syntax(number, _) => leaves_out(*number, other),
         Fault::Duplicate(_, second) => leaves_out(second.file, other),
         Fault::MissingImport(place) => is_import_at(place, other),

@@ -16,7 +16,19 @@ pub fn plain_line(alloc: Global, name: &str) -> Result<String, AllocError>
 pub fn path_line(alloc: Global, path: &str, name: &str) -> Result<String, AllocError>
     ensures { IfOk result (λ line. string_bytes line ≡ path_line path.now name.now) }
 {
-    format!(in alloc; "protoscip: {path}: {name}")
+    path_with(alloc, "", path, name)
+}
+
+/// The same, with words before the path.
+pub(crate) fn path_with(
+    alloc: Global,
+    words: &str,
+    path: &str,
+    name: &str,
+) -> Result<String, AllocError>
+    ensures { IfOk result (λ line. string_bytes line ≡ path_line (words.now ++ path.now) name.now) }
+{
+    format!(in alloc; "protoscip: {words}{path}: {name}")
 }
 
 /// `protoscip: PATH@OFFSET: NAME`, with words before the path.

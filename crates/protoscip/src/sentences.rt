@@ -92,6 +92,7 @@ pub(crate) fn sentence_in(tree: &Tree, fault: &Fault) -> &'static str
         }
         Fault::Spawn
         | Fault::Memory
+        | Fault::Unread(_)
         | Fault::Lex(..)
         | Fault::Duplicate(..)
         | Fault::Unresolved(_)

@@ -36,7 +36,7 @@ fn converse<F: Feed, W: Sink>(
 ) -> Result<(), Fault>
     ensures { Converses manner (reader F.Feed commands) (writer W.Sink answers) index result }
 {
-    let read = read_back(alloc, index)?;
+    let read = read_back(index)?;
     answer_commands_in(alloc, manner, read, commands, answers)?;
     Ok(())
 }

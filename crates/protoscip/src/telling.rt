@@ -1,7 +1,8 @@
 //! The report of what an index lacks.
 
-ghost use Rattle.std.specs.Prelude.{◌≡◌, ◌==◌, ◌&&◌, ◌++◌, ℕ, List, Option, IfOk, OnOk, length, map, string_bytes};
-ghost use Rattle.std.specs.List.{count_by};
+ghost use Rattle.std.specs.Prelude.{◌≡◌, ◌==◌, ◌&&◌, ◌++◌, [], ◌∷◌, ℕ, List, Option, IfOk, OnOk, length, map};
+ghost use Rattle.std.specs.Prelude.{string_bytes, if◌then◌else◌};
+ghost use Rattle.std.specs.List.{count_by, filter};
 ghost use Rattle.std.specs.Option.{option_map};
 ghost use Rattle.source_tree.specs.Trees.{IsSourceCount};
 ghost use Rattle.protoscip.specs.FaultLines.{HaveFilesOf};
@@ -10,20 +11,24 @@ ghost use Rattle.protoscip.specs.ToldLines.{
   counts_line_with,
   is_import,
   is_skipped,
+  is_skipped_read,
   is_skipped_source,
   is_use,
   IsTextOfAllOmissions,
+  is_left_beside,
+  is_read,
   IsToldText,
   IsToldTextWith,
   left_out,
   numbers_line,
+  told_beside,
 };
 
 use crate::told_lines::push_told;
 use crate::tree_counter::TreeCounter;
 use crate::unread::{UnreadPath, push_unread};
 use proto_parse::Dialect;
-use scip_build::Omission;
+use scip_build::{FileFault, Omission};
 use source_tree::Tree;
 use std::alloc::{AllocError, Global};
 
@@ -78,11 +83,66 @@ pub fn count_skipped(told: &[Omission]) -> usize
     told.iter().filter(|omission| is_skipped(*omission)).count()
 }
 
+/// Whether it isn't told of a file that couldn't be read when its tree was made.
+fn is_read(omission: &Omission) -> bool
+    ensures { result ≡ is_read omission.now }
+{
+    !matches!(omission, Omission::File(_, FileFault::Unread))
+}
+
+/// Whether a file is left out that could be read when its tree was made.
+fn is_skipped_read(omission: &Omission) -> bool
+    ensures { result ≡ is_skipped_read omission.now }
+{
+    is_read(omission) && is_skipped(omission)
+}
+
+/// How many such files are left out.
+fn count_skipped_read(told: &[Omission]) -> usize
+    ensures { result ≡ count_by is_skipped_read told.now }
+{
+    told.iter()
+        .filter(|omission| is_skipped_read(*omission))
+        .count()
+}
+
+/// How many files are left out, but those that are among what couldn't be read.
+fn count_beside(unread: &[UnreadPath], told: &[Omission]) -> usize
+    ensures { result ≡ count_by (is_left_beside unread.now) told.now }
+{
+    match unread {
+        [] => count_skipped(told),
+        [_, ..] => count_skipped_read(told),
+    }
+}
+
 /// How many files are left out, with what couldn't be read.
 pub fn count_left_out(unread: &[UnreadPath], told: &[Omission]) -> usize
     ensures { result ≡ left_out unread.now told.now }
 {
-    unread.len() + count_skipped(told)
+    unread.len() + count_beside(unread, told)
+}
+
+/// Appends what is told, unless it is of a file that couldn't be read when its tree was made.
+fn push_read(read: &mut Vec<Omission>, omission: &Omission) -> Result<(), AllocError>
+    ensures { OnOk result (read.new.items
+        ≡ read.old.items ++ (if is_read omission.now then omission.now ∷ [] else [])) }
+{
+    if !is_read(omission) {
+        return Ok(());
+    }
+    Ok(read.push(*omission)?)
+}
+
+/// What is told, but of files that couldn't be read when their tree was made.
+pub(crate) fn told_read(alloc: Global, told: &[Omission]) -> Result<Vec<Omission>, AllocError>
+    ensures { IfOk result (λ read. read.items ≡ filter is_read told.now) }
+{
+    let mut read = Vec::new(alloc);
+    for omission in told {
+        push_read(&mut read, omission)?;
+    }
+    Ok(read)
 }
 
 /// How many sources are left out, by how many the tree has.
@@ -161,6 +221,28 @@ fn push_lines(
     Ok(())
 }
 
+/// Appends a line for each of what is told beside what couldn't be read.
+fn push_beside(
+    alloc: Global,
+    out: &mut String,
+    tree: &Tree,
+    told: &[Omission],
+    telling: &Telling<'_>,
+) -> Result<(), AllocError>
+    requires { HaveFilesOf tree.now told.now }
+    ensures { OnOk result ((lines : List ℕ)
+        × AreLines telling.now.explain tree.now (told_beside telling.now.unread.now told.now) lines
+        × (string_bytes out.new ≡ string_bytes out.old ++ lines)) }
+{
+    match telling.unread {
+        [] => push_lines(alloc, out, tree, told, telling.explain),
+        [_, ..] => {
+            let read = told_read(alloc, told)?;
+            push_lines(alloc, out, tree, read.as_slice(), telling.explain)
+        }
+    }
+}
+
 /// The lines of what couldn't be read, those of what is told, and the line with the numbers, of a tree with this many
 /// sources.
 fn text_of(
@@ -176,7 +258,7 @@ fn text_of(
 {
     let mut text = String::new(alloc);
     push_unread(alloc, &mut text, telling.unread, telling.explain)?;
-    push_lines(alloc, &mut text, tree, told, telling.explain)?;
+    push_beside(alloc, &mut text, tree, told, telling)?;
     let numbers = counts_line(alloc, sources, telling.unread, told)?;
     text.push_str(numbers.as_str())?;
     Ok(text)

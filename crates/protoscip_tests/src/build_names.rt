@@ -21,9 +21,13 @@ const SECOND: FilePlace = FilePlace {
 };
 
 /// Faults, and their texts.
-const FAULTS: [(BuildFault, &str); 9] = [
+const FAULTS: [(BuildFault, &str); 10] = [
     (BuildFault::Spawn, "a thread could not be started"),
     (BuildFault::Memory, "memory ran out"),
+    (
+        BuildFault::File(2, FileFault::Unread),
+        "in file 2: it can't be read",
+    ),
     (
         BuildFault::File(3, FileFault::Lex(LexFault::BadByte(7))),
         "in file 3: a character that can't be here, at byte 7",

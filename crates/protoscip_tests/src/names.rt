@@ -21,9 +21,10 @@ const OTHER: FilePlace = FilePlace {
 };
 
 /// Faults, their names and their texts.
-const FAULTS: [(Fault, &str, &str); 14] = [
+const FAULTS: [(Fault, &str, &str); 15] = [
     (Fault::Spawn, "Spawn", "a thread could not be started"),
     (Fault::Memory, "Memory", "memory ran out"),
+    (Fault::Unread(2), "Unreadable", "file 2 can't be read"),
     (
         Fault::Lex(3, LexFault::BadByte(7)),
         "BadByte",

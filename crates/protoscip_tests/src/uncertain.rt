@@ -16,10 +16,30 @@ struct Row {
     count: u64,
 }
 
-// In the first tree a use in the package `p` names a type of the root, but may name one of `b.proto`, which is in `p`, too.
-// A leading dot leaves no doubt, nor does a name of the own package. In the second tree two files can't be read, of which
-// one is seen by a public import. In the third such a file is seen by no use that could name what it declares.
-static ROWS: [Row; 3] = [
+// In the first tree a use in the package `p` names a type of the root, but may name one of `b.proto`, which couldn't be
+// read. In the second that file is in `p`, too, and has no tree. A leading dot leaves no doubt, nor does a name of the
+// own package. In the third tree two files can't be read, of which one is seen by a public import. In the fourth such a
+// file is seen by no use that could name what it declares.
+static ROWS: [Row; 4] = [
+    Row {
+        files: "a.proto\nsyntax = \"proto3\";\nmessage T {}\n|?b.proto|\
+d.proto\nsyntax = \"proto3\";\npackage p;\nimport \"a.proto\";\nimport \"b.proto\";\nmessage M { T t = 1; }\n",
+        due: "File(1, Unread)
+MissingImport(FilePlace { file: 2, span: Span { start: 55, end: 64 } })
+Uncertain(FilePlace { file: 2, span: Span { start: 78, end: 79 } }, 1)
+a.proto
+0 0 0 0 1 `a.proto`/
+1 8 1 9 1 T#
+d.proto
+0 0 0 0 1 `d.proto`/
+1 8 1 9 1 p/
+2 7 2 16 2 `a.proto`/
+4 8 4 9 1 p/M#
+4 12 4 13 0 T#
+4 14 4 15 1 p/M#t.
+",
+        count: 3,
+    },
     Row {
         files: "a.proto\nsyntax = \"proto3\";\nmessage T {}\n|\
 b.proto\nsyntax = \"proto3\";\npackage p;\nmessage {}\n|\

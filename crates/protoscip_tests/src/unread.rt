@@ -31,8 +31,8 @@ struct Row {
 }
 
 // The first row reads: the folder `d` couldn't be listed, nor the file `n` read, and the index of the other file lacks
-// nothing.
-static ROWS: [Row; 3] = [
+// nothing. In the second, the file that couldn't be read is in the tree, and is told once.
+static ROWS: [Row; 4] = [
     Row {
         files: "a.proto\nsyntax = \"proto3\";\n",
         unread: "d/|n.proto",
@@ -47,6 +47,24 @@ protoscip: 1 sources indexed, 2 skipped, 0 imports and 0 uses without a target",
         report: "{\"column\":null,\"end\":null,\"first\":null,\"import\":null,\"kind\":\"skipped\",\"line\":null,\"message\":\"it can't be read, or its name isn't UTF-8\",\"name\":\"Unreadable\",\"offset\":null,\"path\":\"d/\"}
 {\"column\":null,\"end\":null,\"first\":null,\"import\":null,\"kind\":\"skipped\",\"line\":null,\"message\":\"it can't be read, or its name isn't UTF-8\",\"name\":\"Unreadable\",\"offset\":null,\"path\":\"n.proto\"}
 {\"imports\":0,\"kind\":\"counts\",\"skipped\":2,\"sources\":1,\"status\":0,\"uses\":0}
+",
+    },
+    Row {
+        files: "a.proto\nsyntax = \"proto3\";\nimport \"n.proto\";\n|?n.proto",
+        unread: "n.proto",
+        plain: "protoscip: skipped: n.proto: Unreadable
+protoscip: no target: a.proto@26: MissingImport
+protoscip: 1 sources indexed, 1 skipped, 1 imports and 0 uses without a target",
+        explained: "protoscip: skipped: n.proto: Unreadable
+it can't be read, or its name isn't UTF-8
+protoscip: no target: a.proto@26: MissingImport
+a.proto:2:8: the file with this path is left out
+  2 | import \"n.proto\";
+    |        ^^^^^^^^^
+protoscip: 1 sources indexed, 1 skipped, 1 imports and 0 uses without a target",
+        report: "{\"column\":null,\"end\":null,\"first\":null,\"import\":null,\"kind\":\"skipped\",\"line\":null,\"message\":\"it can't be read, or its name isn't UTF-8\",\"name\":\"Unreadable\",\"offset\":null,\"path\":\"n.proto\"}
+{\"column\":8,\"end\":35,\"first\":null,\"import\":\"n.proto\",\"kind\":\"no target\",\"line\":2,\"message\":\"the file with this path is left out\",\"name\":\"MissingImport\",\"offset\":26,\"path\":\"a.proto\"}
+{\"imports\":1,\"kind\":\"counts\",\"skipped\":1,\"sources\":1,\"status\":0,\"uses\":0}
 ",
     },
     Row {

@@ -16,6 +16,7 @@ use Rattle.option_link.specs.declared.facts.OptionFacts.{OptionFacts}
 use Rattle.option_link.specs.declared.target.OptionTarget.{OptionTarget}
 use Rattle.option_link.specs.Laws.{TargetsAreReachable}
 use Rattle.option_link.specs.OptionNames.{IsOptionTarget}
+use Rattle.option_link.proofs.PartLemmas.{entity_of_part}
 use Rattle.scip_records.specs.declared.records.SymbolInformation.{SymbolInformation}
 use Rattle.scip_model.specs.Packages.{Packages}
 use Rattle.scip_model.specs.Chosen.{Chosen}
@@ -134,7 +135,8 @@ module _ (files : List File) (known : List OptionFacts) (chosen : Chosen) where
       (named-there files x.0 x.1
       (law files known is.file its.is_source (linked is.file its.is_source) its.text its.of_options.element of.target
       target)
-      target.parts.known (target.parts.named part.index part.element part.stands) part.is.is) part.is.kept
+      target.parts.known (entity_of_part files target.parts part.index part.element part.stands).2 part.is.is)
+      part.is.kept
 
   module _ (ids : Packages) (texts : List (List ℕ)) where
     option-pair : (entry : SymbolInformation) (has : HasExternalOfOption files known texts chosen ids entry)

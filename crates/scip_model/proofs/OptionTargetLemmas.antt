@@ -16,9 +16,10 @@ use Rattle.option_link.specs.declared.facts.OptionFacts.{OptionFacts}
 use Rattle.option_link.specs.declared.place.DeclaredPlace.{DeclaredPlace}
 use Rattle.option_link.specs.declared.target.OptionTarget.{OptionTarget}
 use Rattle.option_link.specs.Contexts.{NamesAs}
-use Rattle.option_link.specs.Contexts.NamesAs.{field, group, extension, packed, value}
+use Rattle.option_link.specs.Contexts.NamesAs.{field, group, extension, item, packed, value}
 use Rattle.option_link.specs.OptionNames.{IsOptionTarget, NamesParts}
 use Rattle.option_link.specs.Places.{Stands}
+use Rattle.option_link.proofs.PartLemmas.{entity_of_part}
 use Rattle.option_link.proofs.PlaceLemmas.{one_DeclaredPlace, same_declaration}
 use Rattle.scip_model.specs.Chosen.{Chosen, HaveChoices}
 use Rattle.scip_model.specs.Named.{HasDeclaration}
@@ -65,8 +66,8 @@ module _ (linked files : List File) (same : linked ≡ files) (known : List Opti
       subst (λ (its : List ℕ). TellsGap files known file its option gap) is_read
       (subst (λ (list : List File). TellsGap list known file read option gap) same tells)
 
-module _ (files : List File) {name : OptionName} {at : DeclaredPlace} {parts : List Entity}
-    (named : NamesParts files name at parts) where
+module _ (files : List File) {name : OptionName} {at : DeclaredPlace} {behind : ℕ} {parts : List Entity}
+    (named : NamesParts files name at behind parts) where
   -- a name with a part has a last one
   pub last-part : (index : ℕ) (part : Entity) → slice_get parts index ≡ Some part → IsLastPart parts at
   last-part index part there =
@@ -92,15 +93,16 @@ module _ (files : List File) {name : OptionName} {at : DeclaredPlace} {parts : L
   pub all-known : (chosen : Chosen) → HaveChoices files chosen → All (IsKnownPart files chosen) parts
   all-known chosen choices = λ k d within.
       known-part files chosen named.known choices
-      (named.named k (get_or parts k d) (slice_get-get_or parts k d within))
+      (entity_of_part files named k (get_or parts k d) (slice_get-get_or parts k d within)).2
 
   pub all-nameable : AreIdentifiers → HaveOrigins files → (facts : Facts) (declared : Declaration)
       → HasDeclaration files at.file at.index facts declared → (index : ℕ) (part : Entity)
       → slice_get parts index ≡ Some part → IsNameable files declared.full_name part
   all-nameable spelled origins facts declared has index part there =
+      let its = entity_of_part files named index part there in
       part_nameable files at.file named.facts declared.full_name _ _ part named.known
       (declared_all facts spelled (origins at.file facts has.has_facts) declared
-      (contained facts.declarations at.index declared has.numbered)) (omega arith) (named.named index part there)
+      (contained facts.declarations at.index declared has.numbered)) its.1 its.2
 
   pub nameable-at : AreIdentifiers → HaveOrigins files → (place : DeclaredPlace) → IsLastPart parts place
       → (facts : Facts) (declared : Declaration) → HasDeclaration files place.file place.index facts declared
@@ -117,6 +119,7 @@ module _ (files : List File) (known : List OptionFacts) (file : ℕ) (text : Lis
   stand-as (field words holder own no_group) = words.parts
   stand-as (group words holder braces own) = words.parts
   stand-as (extension words extended from looks owner stands named of) = words.parts
+  stand-as (item words braces says from looks unknown owner stands named first) = words.parts
   stand-as (packed words stands any owner inner named) = words.parts
   stand-as (value words type around stands same named beside) = words.parts
 

@@ -19,6 +19,7 @@ use Rattle.proto_options.specs.declared.names.OptionName.{OptionName}
 use Rattle.option_link.specs.declared.facts.OptionFacts.{OptionFacts}
 use Rattle.option_link.specs.declared.target.OptionTarget.{OptionTarget}
 use Rattle.option_link.specs.Parts.{AreKnownAlike, option_target_at}
+use Rattle.option_link.proofs.PartLemmas.{entity_of_part}
 use Rattle.option_link.proofs.PartTargetLemmas.{parts_name_alike}
 use Rattle.scip_symbol.specs.Entities as symbols
 use Rattle.scip_records.specs.declared.records.Document.{Document}
@@ -92,7 +93,7 @@ module _ (part whole : List File) (at : ℕ → ℕ) (own_paths : HaveOwnPaths p
       let from = from_mapped (entity_at at) here.own.parts is.index one
       (ap (λ ps. slice_get ps is.index) parts ∙ is.part_is) in
       let is_there = there_of part whole at own_paths are ids other_ids named from.0
-      (here.its.parts.named is.index from.0 from.1) here.its.parts.known in
+      (entity_of_part part here.its.parts is.index from.0 from.1).2 here.its.parts.known in
       record {
         own = from.0;
         is_there = is_there;

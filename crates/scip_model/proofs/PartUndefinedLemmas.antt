@@ -17,6 +17,7 @@ use Rattle.proto_visibility.specs.Reaches.Reaches.{sees}
 use Rattle.proto_visibility.specs.Reaches.IsReachable.{reached}
 use Rattle.option_link.specs.Laws.{TargetsAreReachable}
 use Rattle.option_link.specs.declared.facts.OptionFacts.{OptionFacts}
+use Rattle.option_link.proofs.PartLemmas.{entity_of_part}
 use Rattle.scip_symbol.specs.Entities.{Entity, OfFile, IsEntity}
 use Rattle.scip_records.specs.declared.records.SymbolInformation.{SymbolInformation}
 use Rattle.scip_model.specs.Chosen.{Chosen}
@@ -112,7 +113,7 @@ module _ (files : List File) (ids : Packages) (chosen : Chosen) (apart : AreApar
   of_option targets known links texts entry is =
       let names = is.names in
       in_file (IsReachable files)
-      (names.is_target.parts.named names.index (link.Declared is.number is.index) names.part_is)
+      (entity_of_part files names.is_target.parts names.index (link.Declared is.number is.index) names.part_is).2
       (targets files known is.source is.is_source (links is.source is.is_source) is.text names.option names.target
       names.is_target)
 

@@ -35,12 +35,13 @@ target_in-requires-clause-clear c =
     let text = self.text.now in
     let option = self.option.now in
     let count = length c.as_slice.result.now in
-    option_as c.context_of-context.result ((context : Context) → StandsIn files known file text option count context → ⊥) ⊤
+    option_as c.context_of-context.result
+    ((context : Context) → StandsIn files known file text option count context → ⊥) ⊤
     (λ context. StandsIn files known file text option count context × IsClear files context) (IsClear files)
     (λ none. tt) (λ context its. its.1) c.context_of-context.ensures
 
-pub add_target-requires : goal.add_target-requires
-add_target-requires c =
+pub parts_of-requires : goal.parts_of-requires
+parts_of-requires c =
     let self = c.args.asked in
     let files = self.files.names.now in
     let known = self.files.known.now in
@@ -49,14 +50,30 @@ add_target-requires c =
     let option = self.option.now in
     let number = c.args.number in
     let name = c.args.name.now in
+    let behind = c.in_ok-behind.behind in
     let context = c.context_of-context.result in
     option_as c.in_ok-target.target
     ((inner : Context) (at : DeclaredPlace) → context ≡ Some inner
     → NamesIn files known file text option number name inner at → ⊥) ⊤
     (λ at. (inner : Context) × (context ≡ Some inner) × NamesIn files known file text option number name inner at)
-    (HasParts files name) (λ none. tt)
-    (λ at its. has_parts files c.linked.ensures.origins c.facts_are_filled.ensures.names known file text option number
-    name name.role its.0 at its.2) c.in_ok-target.ensures
+    (HasParts files name behind) (λ none. tt)
+    (λ at its. subst (λ (n : ℕ). HasParts files name n at) (c.in_ok-behind.ensures its.0 its.1 at its.2)
+    (has_parts files c.linked.ensures.origins c.facts_are_filled.ensures.names known file text option number
+    name name.role its.0 at its.2)) c.in_ok-target.ensures
+
+pub behind_in-requires-clause-clear : goal.behind_in-requires-clause-clear
+behind_in-requires-clause-clear c =
+    let self = c.args.asked in
+    let files = self.files.names.now in
+    let known = self.files.known.now in
+    let file = self.file in
+    let text = self.text.now in
+    let option = self.option.now in
+    let count = length c.as_slice.result.now in
+    option_as c.context_of-context.result
+    ((context : Context) → StandsIn files known file text option count context → ⊥) ⊤
+    (λ context. StandsIn files known file text option count context × IsClear files context) (IsClear files)
+    (λ none. tt) (λ context its. its.1) c.context_of-context.ensures
 
 pub returns : goal.returns
 returns c =
@@ -82,7 +99,8 @@ returns c =
     found_more files c.linked.ensures.origins c.linked.ensures.clear.clear known
     self.files.in_order c.facts_in_order.ensures.names c.facts_in_order.ensures.package_name
     c.facts_in_order.ensures.uses c.facts_are_filled.ensures.uses file c.requires.source text option number name
-    c.requires.numbered context in_context target c.in_ok-target.ensures c.args.found.now _ c.in_ok-given.given
-    c.in_ok-is.is' c.requires.found c.in_ok-add_target.ensures c.in_ok-push.ensures.items
-    (λ outer is. c.in_ok-given.ensures.gives number outer is) c.in_ok-given.ensures.none
-    (c.in_ok-is.ensures number stands) c.first_gap-found.ensures
+    c.requires.numbered context in_context target c.in_ok-target.ensures c.in_ok-behind.behind c.in_ok-behind.ensures
+    c.args.found.now _ c.in_ok-given.given c.in_ok-is.is' c.in_ok-parts.parts c.requires.found c.in_ok-parts.ensures
+    c.in_ok-add_target.ensures c.in_ok-push.ensures.items
+    (λ outer is. c.in_ok-given.ensures.gives outer is) c.in_ok-given.ensures.none
+    (c.in_ok-is.ensures stands) c.first_gap-found.ensures

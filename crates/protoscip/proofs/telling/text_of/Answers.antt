@@ -7,7 +7,7 @@ pub returns : goal.returns
 returns c =
     let paths = c.args.telling.now.unread.now in
     let unread = unread_lines c.args.telling.now.explain paths in
-    let lines = c.in_ok-push_lines.ensures in (
+    let lines = c.in_ok-push_beside.ensures in (
       lines.0,
       lines.1,
       c.in_ok-push_str.ensures.bytes

@@ -31,10 +31,10 @@ returns-in_ok-name-in-Some c =
     ((e : Declaration) → StandsAs files Message place e → ⊥)
     (λ same. (same ≡ place) × (c.only_in-only.result ≡ Some place))
     (λ message. (message ≡ place) × ((e : Declaration) × StandsAs files Message place e))
-    (λ none. not_alone_by files place d stands c.only_in-only.result only none)
+    (λ none. not_alone_by files place d stands Message c.only_in-only.result only none)
     (λ message its. (
       its.0,
-      alone_by files place d stands kind
+      alone_by files place d stands Message kind
           (some_of _ _ _ its.1 only),
     )) c.if_same.ensures
 

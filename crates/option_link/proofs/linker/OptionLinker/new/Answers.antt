@@ -14,6 +14,7 @@ invariant_of-result c = (
     in_order = c.requires.in_order;
   },
   c.in_ok-often.ensures,
+  c.in_ok-said.ensures,
 )
 
 pub returns : goal.returns

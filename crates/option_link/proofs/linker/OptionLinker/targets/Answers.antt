@@ -11,6 +11,9 @@ use Rattle.option_link.proofs.linker.OptionLinker.targets.Goals as goal
 pub new-often-requires : goal.new-often-requires
 new-often-requires c = c.self.invariant.1
 
+pub invariant_of-asked : goal.invariant_of-asked
+invariant_of-asked c = record { same_said = c.self.invariant.2 }
+
 pub invariant_of-files : goal.invariant_of-files
 invariant_of-files c = record {
   in_order = c.self.invariant.0.in_order;

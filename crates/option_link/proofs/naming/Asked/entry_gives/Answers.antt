@@ -11,7 +11,8 @@ pub returns-then-not-is_as : goal.returns-then-not-is_as
 returns-then-not-is_as c =
     let self = c.args.self in
     λ inner x. fails c.is_as.result _ c.is_as.ensures c.if-not-is_as.true
-    (entry_plain self.files.names.now self.files.known.now self.file self.text.now self.option.now c.args.name.now
+    (entry_plain self.files.names.now self.files.known.now self.file self.text.now self.option.now c.args.number
+    c.args.name.now
     c.args.map inner x)
 
 pub returns-then-is_word : goal.returns-then-is_word
@@ -20,7 +21,8 @@ returns-then-is_word c = key (c.is_as.ensures.0 c.if-not-is_as.false) (c.is_word
 pub returns-then-not-is_word : goal.returns-then-not-is_word
 returns-then-not-is_word c =
     let self = c.args.self in
-    entry_word self.files.names.now self.files.known.now self.file self.text.now self.option.now c.args.name.now
+    entry_word self.files.names.now self.files.known.now self.file self.text.now self.option.now c.args.number
+    c.args.name.now
     c.args.map (fails c.is_word.result _ c.is_word.ensures c.if-is_word.false)
     (fails c.is_word-2.result _ c.is_word-2.ensures c.if-not-is_word.true)
 
@@ -31,12 +33,13 @@ returns c =
     let known = self.files.known.now in
     let text = self.text.now in
     let option = self.option.now in
+    let number = c.args.number in
     let name = c.args.name.now in
     let holder = c.args.map in
     found_as c.value_gives.result ((inner : Context) → ValueGives files known holder inner → ⊥)
-    ((inner : Context) → LeadsUnnamed files known self.file text option name (inside.Entries holder) inner → ⊥)
-    (ValueGives files known holder) (LeadsUnnamed files known self.file text option name (inside.Entries holder))
-    (λ none inner x. none inner (entry_value files known self.file text option name holder
+    ((inner : Context) → LeadsUnnamed files known self.file text option number name (inside.Entries holder) inner → ⊥)
+    (ValueGives files known holder) (LeadsUnnamed files known self.file text option number name (inside.Entries holder))
+    (λ none inner x. none inner (entry_value files known self.file text option number name holder
     (fails c.is_word.result _ c.is_word.ensures c.if-is_word.false) inner x))
     (λ inner x. map_value (c.is_as.ensures.0 c.if-not-is_as.false) (c.is_word-2.ensures.0
     c.if-not-is_word.false) x)

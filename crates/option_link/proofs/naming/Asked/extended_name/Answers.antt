@@ -10,6 +10,7 @@ use Rattle.option_link.specs.declared.place.DeclaredPlace.{DeclaredPlace}
 use Rattle.option_link.proofs.LoopLemmas.{found_as}
 use Rattle.option_link.proofs.ExtensionLemmas.{options_called, message_called, entries_extend_none, enum_extends_none}
 use Rattle.option_link.proofs.ExtensionLemmas.{scalar_extends_none, untold_extends_none, options_some}
+use Rattle.option_link.proofs.ExtensionLemmas.{skipped_extends_none}
 use Rattle.option_link.proofs.naming.Asked.extended_name.Goals as goal
 
 pub returns-in-Options-clause-named : goal.returns-in-Options-clause-named
@@ -68,3 +69,9 @@ returns-in-Untold-clause-named c =
     let self = c.args.self in
     subst (λ (context : Context). (message : DeclaredPlace) → MayBeExtended self.files.names.now self.option.now context
     message → ⊥) (sym c.in-Untold.is) (untold_extends_none self.files.names.now self.option.now)
+
+pub returns-in-Skipped-clause-named : goal.returns-in-Skipped-clause-named
+returns-in-Skipped-clause-named c =
+    let self = c.args.self in
+    subst (λ (context : Context). (message : DeclaredPlace) → MayBeExtended self.files.names.now self.option.now context
+    message → ⊥) (sym c.in-Skipped.is) (skipped_extends_none self.files.names.now self.option.now)

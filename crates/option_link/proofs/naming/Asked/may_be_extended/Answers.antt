@@ -7,6 +7,7 @@ use Rattle.option_link.specs.declared.contexts.Context.TheVariants as inside
 use Rattle.option_link.proofs.LoopLemmas.{iff_as, never_so, ok_as}
 use Rattle.option_link.proofs.ExtensionLemmas.{options_extended, same_extended, no_message_there, entries_extend_none}
 use Rattle.option_link.proofs.ExtensionLemmas.{enum_extends_none, scalar_extends_none, untold_extends_none}
+use Rattle.option_link.proofs.ExtensionLemmas.{skipped_extends_none}
 use Rattle.option_link.proofs.naming.Asked.may_be_extended.Goals as goal
 
 pub returns-in-Options : goal.returns-in-Options
@@ -61,3 +62,9 @@ returns-in-Untold c =
     let self = c.args.self in
     never_so _ (subst (λ (context : Context). MayBeExtended self.files.names.now self.option.now context c.args.message
     → ⊥) (sym c.in-Untold.is) (untold_extends_none self.files.names.now self.option.now c.args.message))
+
+pub returns-in-Skipped : goal.returns-in-Skipped
+returns-in-Skipped c =
+    let self = c.args.self in
+    never_so _ (subst (λ (context : Context). MayBeExtended self.files.names.now self.option.now context c.args.message
+    → ⊥) (sym c.in-Skipped.is) (skipped_extends_none self.files.names.now self.option.now c.args.message))

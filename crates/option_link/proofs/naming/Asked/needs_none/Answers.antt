@@ -1,4 +1,4 @@
-use Rattle.std.proofs.Common.{◌↔◌, ℕ, MatchOption, IsTrue}
+use Rattle.std.proofs.Common.{◌↔◌, MatchOption, IsTrue}
 use Rattle.option_link.specs.Contexts.{StandsIn}
 use Rattle.option_link.specs.OptionNames.{NeedsNoTarget}
 use Rattle.option_link.specs.Found.{NeedsNoneIn}
@@ -16,18 +16,20 @@ returns-in-Some c =
     let file = self.file in
     let text = self.text.now in
     let option = self.option.now in
+    let number = c.args.number in
     let name = c.args.name.now in
     let inner = c.in-Some.inner in
-    ok_as c.needs_none_in.result (λ is. IsTrue is ↔ NeedsNoneIn files file text option name inner)
-    (λ is. (number : ℕ) → MatchOption c.args.context
+    ok_as c.needs_none_in.result (λ is. IsTrue is ↔ NeedsNoneIn files known file text option number name inner)
+    (λ is. MatchOption c.args.context
     ((other : Context) → StandsIn files known file text option number other → ⊥)
     (StandsIn files known file text option number)
     → IsTrue is ↔ NeedsNoTarget files known file text option number name)
-    (λ is iff number told. (
+    (λ is iff told. (
     let stands = some_of _ _ _ c.in-Some.is told in
-    iff_as is (NeedsNoneIn files file text option name inner) (NeedsNoTarget files known file text option number name)
-    (needs_from files known file text option name number inner stands)
-    (needs_to files known file text option name number inner (λ other its.
+    iff_as is (NeedsNoneIn files known file text option number name inner)
+    (NeedsNoTarget files known file text option number name)
+    (needs_from files known file text option number name inner stands)
+    (needs_to files known file text option number name inner (λ other its.
     one_context files c.linked.ensures.origins known self.files.in_order
     c.facts_in_order.ensures.names c.facts_in_order.ensures.uses c.facts_are_filled.ensures.uses file text option
     number other inner its stands)) iff)) c.needs_none_in.ensures
@@ -35,5 +37,5 @@ returns-in-Some c =
 pub returns-in-None : goal.returns-in-None
 returns-in-None c =
     let self = c.args.self in
-    λ number told. never_so _ (needs_nowhere self.files.names.now self.files.known.now self.file self.text.now
-    self.option.now c.args.name.now number (none_of _ _ c.in-None.is told))
+    λ told. never_so _ (needs_nowhere self.files.names.now self.files.known.now self.file self.text.now
+    self.option.now c.args.number c.args.name.now (none_of _ _ c.in-None.is told))

@@ -7,15 +7,18 @@ use Rattle.option_link.specs.declared.place.DeclaredPlace.{DeclaredPlace}
 use Rattle.option_link.proofs.LoopLemmas.{found_as}
 use Rattle.option_link.proofs.OwnFieldLemmas.{in_message, of_message, none_in_entries, none_in_enum}
 use Rattle.option_link.proofs.OwnFieldLemmas.{none_in_scalar, none_in_untold}
+use Rattle.option_link.proofs.OwnFieldLemmas.{none_in_skipped}
 use Rattle.option_link.proofs.naming.Asked.own_field.Goals as goal
 
 pub returns-in-Options : goal.returns-in-Options
 returns-in-Options c =
     let self = c.args.self in
     subst (λ (context : Context). IfOk c.options_field.result (λ found. MatchOption found
-    ((field : DeclaredPlace) → IsFieldIn self.files.names.now self.files.known.now self.file self.option.now c.args.number
+    ((field : DeclaredPlace) → IsFieldIn self.files.names.now self.files.known.now self.file self.option.now
+    c.args.number
     c.args.word.now context field → ⊥)
-    (IsFieldIn self.files.names.now self.files.known.now self.file self.option.now c.args.number c.args.word.now context)))
+    (IsFieldIn self.files.names.now self.files.known.now self.file self.option.now c.args.number c.args.word.now
+    context)))
     (sym c.in-Options.is) c.options_field.ensures
 
 pub member-requires : goal.member-requires
@@ -73,3 +76,10 @@ returns-in-Untold c =
     subst (λ (context : Context). (field : DeclaredPlace) → IsFieldIn self.files.names.now self.files.known.now
     self.file self.option.now c.args.number c.args.word.now context field → ⊥) (sym c.in-Untold.is)
     (none_in_untold self.files.names.now self.files.known.now self.file self.option.now c.args.number c.args.word.now)
+
+pub returns-in-Skipped : goal.returns-in-Skipped
+returns-in-Skipped c =
+    let self = c.args.self in
+    subst (λ (context : Context). (field : DeclaredPlace) → IsFieldIn self.files.names.now self.files.known.now
+    self.file self.option.now c.args.number c.args.word.now context field → ⊥) (sym c.in-Skipped.is)
+    (none_in_skipped self.files.names.now self.files.known.now self.file self.option.now c.args.number c.args.word.now)

@@ -9,6 +9,7 @@ use Rattle.option_link.specs.declared.place.DeclaredPlace.{DeclaredPlace}
 use Rattle.option_link.proofs.LoopLemmas.{found_as}
 use Rattle.option_link.proofs.TargetNameLemmas.{packed_from, packed_to, packs_none_options, packs_none_entries}
 use Rattle.option_link.proofs.TargetNameLemmas.{packs_none_enum, packs_none_scalar, packs_none_untold}
+use Rattle.option_link.proofs.TargetNameLemmas.{packs_none_skipped}
 use Rattle.option_link.proofs.WordLemmas.{now}
 use Rattle.option_link.proofs.naming.Asked.packed_target.Goals as goal
 
@@ -73,4 +74,12 @@ returns-in-Untold c =
     subst (λ (context : Context). (at : DeclaredPlace) → NamesAs self.files.names.now self.files.known.now self.file
     self.text.now self.option.now c.args.number c.args.name.now role.Message context at → ⊥) (sym c.in-Untold.is)
     (packs_none_untold self.files.names.now self.files.known.now self.file self.text.now self.option.now c.args.number
+    c.args.name.now)
+
+pub returns-in-Skipped : goal.returns-in-Skipped
+returns-in-Skipped c =
+    let self = c.args.self in
+    subst (λ (context : Context). (at : DeclaredPlace) → NamesAs self.files.names.now self.files.known.now self.file
+    self.text.now self.option.now c.args.number c.args.name.now role.Message context at → ⊥) (sym c.in-Skipped.is)
+    (packs_none_skipped self.files.names.now self.files.known.now self.file self.text.now self.option.now c.args.number
     c.args.name.now)

@@ -10,7 +10,7 @@ pub returns-then-is_as : goal.returns-then-is_as
 returns-then-is_as c =
     let self = c.args.self in
     λ inner x. untold_acting self.files.names.now self.files.known.now self.file self.text.now self.option.now
-    c.args.name.now inner x (c.is_as.ensures.0 c.if-is_as.true)
+    c.args.number c.args.name.now inner x (c.is_as.ensures.0 c.if-is_as.true)
 
 pub returns-then-not-is_taken : goal.returns-then-not-is_taken
 returns-then-not-is_taken c =
@@ -25,13 +25,16 @@ returns-else-not-is_taken c =
     let known = self.files.known.now in
     let text = self.text.now in
     let option = self.option.now in
+    let number = c.args.number in
     let name = c.args.name.now in
     let place = c.in-Some.field in
     let taken = c.is_taken.ensures.0 c.if-not-is_taken.false in
     found_as c.field_given.result ((inner : Context) → IsDefaultGiven files known self.file place inner → ⊥)
-    ((inner : Context) → LeadsUnnamed files known self.file text option name inside.Untold inner → ⊥)
-    (IsDefaultGiven files known self.file place) (LeadsUnnamed files known self.file text option name inside.Untold)
-    (λ none inner x. none inner (untold_given files known self.file text option name place c.in-Some.ensures taken inner
+    ((inner : Context) → LeadsUnnamed files known self.file text option number name inside.Untold inner → ⊥)
+    (IsDefaultGiven files known self.file place)
+    (LeadsUnnamed files known self.file text option number name inside.Untold)
+    (λ none inner x. none inner (untold_given files known self.file text option number name place c.in-Some.ensures
+    taken inner
     x))
     (λ inner given. default (taken_there text option place taken c.in-Some.ensures)
     (fails c.is_as.result _ c.is_as.ensures c.if-is_as.false) given) c.field_given.ensures

@@ -9,6 +9,7 @@ use Rattle.option_link.specs.declared.place.DeclaredPlace.{DeclaredPlace}
 use Rattle.option_link.proofs.LoopLemmas.{found_as}
 use Rattle.option_link.proofs.TargetNameLemmas.{value_from, value_to, values_none_options, values_none_message}
 use Rattle.option_link.proofs.TargetNameLemmas.{values_none_entries, values_none_scalar, values_none_untold}
+use Rattle.option_link.proofs.TargetNameLemmas.{values_none_skipped}
 use Rattle.option_link.proofs.WordLemmas.{now}
 use Rattle.option_link.proofs.naming.Asked.value_target.Goals as goal
 
@@ -75,4 +76,12 @@ returns-in-Untold c =
     subst (λ (context : Context). (at : DeclaredPlace) → NamesAs self.files.names.now self.files.known.now self.file
     self.text.now self.option.now c.args.number c.args.name.now role.Value context at → ⊥) (sym c.in-Untold.is)
     (values_none_untold self.files.names.now self.files.known.now self.file self.text.now self.option.now c.args.number
+    c.args.name.now)
+
+pub returns-in-Skipped : goal.returns-in-Skipped
+returns-in-Skipped c =
+    let self = c.args.self in
+    subst (λ (context : Context). (at : DeclaredPlace) → NamesAs self.files.names.now self.files.known.now self.file
+    self.text.now self.option.now c.args.number c.args.name.now role.Value context at → ⊥) (sym c.in-Skipped.is)
+    (values_none_skipped self.files.names.now self.files.known.now self.file self.text.now self.option.now c.args.number
     c.args.name.now)

@@ -1,6 +1,6 @@
 use Rattle.std.proofs.Common.{false, Bool, List, ℕ, IfOk, map, sym, subst, arith}
 use Rattle.std.specs.String.{string_bytes}
-use Rattle.option_link.specs.Tables.{LooksFor}
+use Rattle.option_link.specs.Lookups.{LooksFor}
 use Rattle.option_link.proofs.LookupLemmas.{Answers, absolute_by, no_words, several_of}
 use Rattle.option_link.proofs.WordLemmas.{now, one_of}
 use Rattle.option_link.proofs.table.DeclarationTable.full_name_of.Goals as goal

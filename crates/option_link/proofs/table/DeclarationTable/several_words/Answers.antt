@@ -1,7 +1,7 @@
 use Rattle.std.proofs.Common.{◌≡◌, ◌∷◌, false, List, ℕ, sym, ap, ◌∙◌, subst}
 use Rattle.std.specs.String.{string_bytes}
 use Rattle.proto_decl.specs.Names.{qualified, dotted}
-use Rattle.option_link.specs.Tables.{LooksFor}
+use Rattle.option_link.specs.Lookups.{LooksFor}
 use Rattle.option_link.proofs.LoopLemmas.{some_of, none_of}
 use Rattle.option_link.proofs.LookupLemmas.{compound_by, compound_none}
 use Rattle.option_link.proofs.table.DeclarationTable.several_words.Goals as goal

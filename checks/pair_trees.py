@@ -96,13 +96,13 @@ class Tree:
 
     def unreadable(self):
         """What can't be read: files that are closed, and names that aren't UTF-8, of files or of folders, as they are
-        told; by the paths of the files."""
+        told (docs/USAGE.md); by the paths of the files."""
         found = {}
         for path, file in self.files.items():
             parts = path.split(b"/")
             odd = [number for number, part in enumerate(parts, 1) if not is_utf8(part)]
             if odd or file.is_closed:
-                found[path] = b"/".join(parts[:odd[0]] if odd else parts) + b"/" * (0 < sum(odd[:1]) < len(parts))
+                found[path] = b"/".join(parts[:odd[0]] if odd else parts)
         return found
 
     def shown(self):

@@ -120,7 +120,7 @@ module _ (files mended : List File) (are : AreMended files mended) where
         let was = sees_was refl sees in packaged was (facts_were seen was facts has) some few
 
     -- so a word is found where it was
-    outside : {admits : NameKind → Bool} {word from scope : List ℕ} → Innermost files file admits word from scope
+    pub outside : {admits : NameKind → Bool} {word from scope : List ℕ} → Innermost files file admits word from scope
         → Innermost mended file admits word from scope
     outside (here known) = here (known_stays files mended are known)
     outside {word = word} (farther {scope = scope} absent is rest) =
@@ -184,7 +184,7 @@ module _ (files mended : List File) (are : AreMended files mended) where
     Package = package_of facts.package_name (length facts.package_name)
 
     -- so a word is found where it was
-    innermost : {admits : NameKind → Bool} {word from scope : List ℕ} → IsInPackage facts from
+    pub innermost : {admits : NameKind → Bool} {word from scope : List ℕ} → IsInPackage facts from
         → Innermost files file admits word from scope
         → (IsFartherOut Package scope → (behind : ℕ) → IsFirstUnread files file behind → ⊥)
         → Innermost mended file admits word from scope
@@ -242,9 +242,7 @@ module _ (files mended : List File) (are : AreMended files mended) (origins : Ha
           others = others;
           words_are = words;
           plain = plain;
-          start = start;
-          innermost = found;
-          passed = passed;
+          farther = record { start = start; innermost = found; passed = passed };
         };
         behind = first;
       })

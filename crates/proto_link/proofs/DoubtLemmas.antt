@@ -3,8 +3,8 @@ use Rattle.std.proofs.Common.{◌≡◌, ◌↔◌, inl, inr, ℕ, ◌+◌, ◌<
 use Rattle.std.proofs.Common.{Option, Some, None, get_or, refl, ap, sym, ◌∙◌, subst, arith}
 use Rattle.std.specs.List.{Contains, slice_get}
 use Rattle.std.proofs.lemmas.Bool.{and_parts, cases_lt, cases_order, false≢true}
-use Rattle.std.proofs.lemmas.Option.{same_Some, slice_get_within, slice_get_cases}
-use Rattle.std.proofs.lemmas.List.{get_or_default}
+use Rattle.std.proofs.lemmas.Option.{same_Some, slice_get_within, slice_get_cases, slice_get-get_or}
+use Rattle.std.proofs.lemmas.List.{get_or_default, get_or_push, length_push}
 use Rattle.std.proofs.lemmas.List.Elements.{Contains-append_left, Contains-append_cases, Contains-push, Contains-get_or}
 use Rattle.std.proofs.lemmas.List.Quantifiers.{all_pairs_push}
 use Rattle.basics.proofs.ListLemmas.{only, in_nothing}
@@ -13,8 +13,9 @@ use Rattle.proto_decl.specs.declared.uses.Use.{Use}
 use Rattle.proto_visibility.specs.Files.{File, HasFacts, IsSource, IsSourceAt}
 use Rattle.proto_visibility.specs.Sees.{Sees}
 use Rattle.proto_visibility.proofs.FileFactLemmas.{one_list_of_facts}
+use Rattle.proto_visibility.proofs.SeeingLemmas.{slice_get_prefix}
 use Rattle.proto_link.specs.declared.uncertain_use.UncertainUse.{UncertainUse}
-use Rattle.proto_link.specs.Uncertain.{HasNoFacts, IsFirstUnread, IsUncertain}
+use Rattle.proto_link.specs.Uncertain.{AreFirstUnread, HasNoFacts, IsFirstUnread, IsFirstUnreadIf, IsUncertain}
 use Rattle.proto_link.specs.Tables.Doubts.{Adds, AreUnread, IsDoubted, IsDoubtedIn, IsDoubtedUse, MayChange}
 
 -- ---- files without facts
@@ -137,6 +138,34 @@ module _ (files : List File) where
     none_seen_all count all none number unread sees =
         let at = place_of number unread in
         none at.0 (omega (arith, at.1, all)) (subst (Sees files file) (sym at.2) sees)
+
+  -- ---- the first of them that each file sees
+
+  pub none_first : AreFirstUnread files 0 []
+  none_first = record {
+    one_each = refl;
+    are = λ file first stands.
+        absurd (omega (arith, slice_get_within {A = Option ℕ} [] file first stands));
+  }
+
+  pub firsts_more : (count : ℕ) (firsts : List (Option ℕ)) (first : Option ℕ) → IsFirstUnreadIf files count first
+      → AreFirstUnread files count firsts → AreFirstUnread files (count + 1) (firsts ++ first ∷ [])
+  firsts_more count firsts first is so_far = record {
+    one_each = length_push firsts first ∙ ap (λ n. n + 1) so_far.one_each;
+    are = λ file one stands. elim (cases_lt file (length firsts)) [
+      | inl before ↦ so_far.are file one (sym (slice_get_prefix firsts (first ∷ []) file before) ∙ stands)
+      | inr behind ↦ (
+          let within = slice_get_within (firsts ++ first ∷ []) file one stands in
+          let here : file ≡ length firsts = omega (arith, within, behind, length_push firsts first) in
+          let last : slice_get (firsts ++ first ∷ []) (length firsts) ≡ Some first =
+          slice_get-get_or (firsts ++ first ∷ []) (length firsts) first (omega (arith, length_push firsts first))
+          ∙ ap Some (get_or_push firsts first first (length firsts) refl) in
+          let same : first ≡ one =
+          same_Some first one (sym last ∙ (ap (slice_get (firsts ++ first ∷ [])) (sym here) ∙ stands)) in
+          let at : count ≡ file = sym (here ∙ so_far.one_each) in
+          subst (λ f. IsFirstUnreadIf files f one) at (subst (IsFirstUnreadIf files count) same is))
+    ];
+  }
 
 -- ---- what is added
 

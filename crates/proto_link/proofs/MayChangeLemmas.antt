@@ -6,7 +6,7 @@ use Rattle.std.proofs.lemmas.Bool.{cases_order, false≢true}
 use Rattle.std.proofs.lemmas.List.Elements.{All-contains, Contains-push}
 use Rattle.std.proofs.lemmas.Option.{same_Some, slice_get_within}
 use Rattle.proto_lex.specs.declared.span.Span.{Span}
-use Rattle.proto_decl.specs.Names.{qualified, dotted, IsAround, package_of}
+use Rattle.proto_decl.specs.Names.{qualified, dotted, IsAround}
 use Rattle.proto_decl.specs.Names.IsAround.{before_dot, root}
 use Rattle.proto_decl.specs.Facts.{Facts, AreOfSomeFile}
 use Rattle.proto_decl.specs.Laws.{IsScope, StandsInScope}
@@ -27,7 +27,7 @@ use Rattle.proto_link.specs.Resolves.{Innermost, ResolvesIn}
 use Rattle.proto_link.specs.Resolves.Innermost.{here, farther}
 use Rattle.proto_link.specs.Resolves.ResolvesIn.{absolute, single, extended, compound}
 use Rattle.proto_link.specs.Targets.{IsTarget}
-use Rattle.proto_link.specs.Uncertain.{HasNoFacts, IsFartherOut, IsUncertain, first_wanted}
+use Rattle.proto_link.specs.Uncertain.{HasNoFacts, IsFartherOut, IsUncertain, first_wanted, package_name}
 use Rattle.proto_link.specs.Mended.{IsAroundOrSame, IsMended, AreMended}
 use Rattle.proto_link.specs.Mended.IsAroundOrSame.{same as same_scope, farther as farther_scope}
 use Rattle.proto_link.specs.Mended.IsMended.{unchanged, read}
@@ -59,9 +59,6 @@ qualified_longer (first ∷ short) (byte ∷ long) name less =
     omega (arith, less, length-append (byte ∷ long) (46 ∷ name), length-append (first ∷ short) (46 ∷ name))
 
 -- ---- where a word is found that is known in the package
-
-abbrev package_name : Facts → List ℕ
-package_name facts = package_of facts.package_name (length facts.package_name)
 
 module _ (files : List File) (file : ℕ) (facts : Facts) where
   found_inside : {admits : NameKind → Bool} {word from start : List ℕ} → IsInPackage facts from
@@ -228,8 +225,8 @@ module _ (files : List File) (origins : HaveOrigins files)
       is.farther.known is.known in
       let out : IsFartherOut (package_name is.facts) old.start =
       subst (λ f. IsFartherOut (package_name f) old.start) facts
-      (subst (IsFartherOut (package_name is.farther.facts)) (one_scope is.farther.innermost old.found)
-      is.farther.passed) in
+      (subst (IsFartherOut (package_name is.farther.facts)) (one_scope is.farther.farther.innermost old.found)
+      is.farther.farther.passed) in
       let origin = origins uncertain.place.file is.facts is.known in
       let inside = found_inside mended uncertain.place.file is.facts
       (in_package is.facts (stand is.facts origin) is.type_use.scope

@@ -62,13 +62,14 @@ module _ (files : List File) (file : ℕ) (type_use : Use) where
   module _ (word : List ℕ) (others : List (List ℕ)) (words : words_of type_use ≡ word ∷ others) where
     -- the first word is one, and so is where it is found
     found_at : (is : IsFoundFarther files file type_use)
-        → Innermost files file (first_wanted type_use.is_extended others) word type_use.scope is.start
+        → Innermost files file (first_wanted type_use.is_extended others) word type_use.scope is.farther.start
     found_at is =
         let both = sym is.words_are ∙ words in
-        subst (λ os. Innermost files file (first_wanted type_use.is_extended os) word type_use.scope is.start)
+        subst (λ os. Innermost files file (first_wanted type_use.is_extended os) word type_use.scope is.farther.start)
         (tail_of is.word word is.others others both)
-        (subst (λ w. Innermost files file (first_wanted type_use.is_extended is.others) w type_use.scope is.start)
-        (head_of is.word word is.others others both) is.innermost)
+        (subst
+        (λ w. Innermost files file (first_wanted type_use.is_extended is.others) w type_use.scope is.farther.start)
+        (head_of is.word word is.others others both) is.farther.innermost)
       where
         head_of : (a b : List ℕ) (xs ys : List (List ℕ)) → a ∷ xs ≡ b ∷ ys → a ≡ b
         head_of a b xs ys e = cc
@@ -89,16 +90,14 @@ module _ (files : List File) (file : ℕ) (type_use : Use) where
         others = others;
         words_are = words;
         plain = plain;
-        start = start;
-        innermost = innermost;
-        passed = out;
+        farther = record { start = start; innermost = innermost; passed = out };
       },
       λ is. (
           let scope = one_scope (found_at is) innermost in
           let same = one_list_of_facts files file is.facts facts is.known has in
           let Out : Facts → List ℕ → Type 0 = λ f s. IsFartherOut (package_of f.package_name (length f.package_name)) s
           in
-          subst (Out facts) scope (subst (λ f. Out f is.start) same is.passed)),
+          subst (Out facts) scope (subst (λ f. Out f is.farther.start) same is.farther.passed)),
     )
 
     -- whether it is, by where the first word is found

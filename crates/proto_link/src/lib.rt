@@ -30,4 +30,5 @@ pub use proto_visibility::{
     nothing_is_left_out_of_good_files, one_kept,
 };
 pub use target::Target;
+pub use uncertain::is_farther_out;
 pub use uncertain_use::UncertainUse;

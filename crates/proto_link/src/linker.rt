@@ -15,11 +15,11 @@ ghost use Rattle.proto_visibility.specs.Linked.{HaveClearNames, CanBeLinked, May
 ghost use Rattle.proto_visibility.specs.declared.fault.LinkFault.{LinkFault};
 ghost use Rattle.proto_link.specs.Targets.{IsTarget, IsUseFault, MayRefuseUse};
 ghost use Rattle.proto_link.specs.declared.uncertain_use.UncertainUse.{UncertainUse};
-ghost use Rattle.proto_link.specs.Uncertain.{IsUncertain};
+ghost use Rattle.proto_link.specs.Uncertain.{AreFirstUnread, IsBeyondPackage, IsUncertain};
 
 use crate::resolve::target_of;
 use crate::target::Target;
-use crate::uncertain::uncertain_uses_of;
+use crate::uncertain::{first_unread_files, is_beyond_package, uncertain_uses_of};
 use crate::uncertain_use::UncertainUse;
 use crate::use_faults::use_faults_of;
 use proto_decl::{FileFacts, Use};
@@ -254,5 +254,27 @@ impl<'a, 't> Linker<'a, 't> {
             ↔ IsUncertain self.now uncertain) }
     {
         uncertain_uses_of(alloc, &self.namespace)
+    }
+
+    /// For each file, by its number, the first of those without facts that it sees. An error means that memory was
+    /// refused.
+    pub fn first_unread_files(&self, alloc: Global) -> Result<Vec<Option<usize>>, AllocError>
+        ensures { IfOk result (λ firsts. AreFirstUnread self.now (length self.now) firsts.items) }
+    {
+        first_unread_files(alloc, &self.namespace)
+    }
+
+    /// Whether a scope is farther out than the package of a file: around it, in any number of steps. The file's number
+    /// has to be below `count`. An error means that memory was refused.
+    pub fn is_beyond_package(
+        &self,
+        alloc: Global,
+        file: usize,
+        start: &str,
+    ) -> Result<bool, AllocError>
+        requires { file < length self.now }
+        ensures { IfOk result (λ is. IsTrue is ↔ IsBeyondPackage self.now file start.now) }
+    {
+        is_beyond_package(alloc, &self.namespace, file, start)
     }
 }

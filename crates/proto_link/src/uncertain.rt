@@ -1,13 +1,10 @@
 //! Uses that may name another type once a file can be read.
 
 ghost use Rattle.std.specs.Prelude.{ℕ, ◌+◌, ◌≡◌, ◌<◌, ◌↔◌, ◌⊎◌, Contains, IsTrue, IfOk, OnOk, MatchOption, length, map};
-ghost use Rattle.proto_decl.specs.Facts.{Facts};
-ghost use Rattle.proto_decl.specs.Names.{package_of};
-ghost use Rattle.proto_visibility.specs.Files.{HasFacts};
 ghost use Rattle.proto_visibility.specs.Knows.{admits};
-ghost use Rattle.proto_visibility.specs.Sees.{Sees};
 ghost use Rattle.proto_link.specs.declared.uncertain_use.UncertainUse.{UncertainUse};
-ghost use Rattle.proto_link.specs.Uncertain.{HasNoFacts, HasTarget, IsFartherOut, IsFirstUnread, IsFoundFarther};
+ghost use Rattle.proto_link.specs.Uncertain.{AreFirstUnread, HasNoFacts, HasTarget, IsBeyondPackage, IsFartherOut};
+ghost use Rattle.proto_link.specs.Uncertain.{IsFirstUnreadIf, IsFoundFarther};
 ghost use Rattle.proto_link.specs.Uncertain.{IsUncertain, first_wanted};
 ghost use Rattle.proto_link.specs.Tables.Doubts.{Adds, AreUnread, IsDoubted, IsDoubtedIn, IsDoubtedUse, MayChange};
 
@@ -59,9 +56,7 @@ fn unread_files(alloc: Global, namespace: &Namespace) -> Result<Vec<usize>, Allo
 fn first_unread(namespace: &Namespace, file: usize, unread: &[usize]) -> Option<usize>
     requires file { file < length namespace.now }
     requires unread { AreUnread namespace.now (length namespace.now) unread.now }
-    ensures { MatchOption result
-        ((number : ℕ) → HasNoFacts namespace.now number → Sees namespace.now file number → ⊥)
-        (IsFirstUnread namespace.now file) }
+    ensures { IsFirstUnreadIf namespace.now file result }
 {
     for number in unread {
         if namespace.visible(file, *number) {
@@ -69,6 +64,22 @@ fn first_unread(namespace: &Namespace, file: usize, unread: &[usize]) -> Option<
         }
     }
     None
+}
+
+/// For each file, by its number, the first of the files without facts that it sees.
+pub(crate) fn first_unread_files(
+    alloc: Global,
+    namespace: &Namespace,
+) -> Result<Vec<Option<usize>>, AllocError>
+    ensures { IfOk result (λ firsts. AreFirstUnread namespace.now (length namespace.now) firsts.items) }
+{
+    let unread = unread_files(alloc, namespace)?;
+    let mut firsts = Vec::with_capacity(alloc, namespace.count())?;
+    for file in 0..namespace.count() {
+        let first = first_unread(namespace, file, unread.as_slice());
+        firsts.push(first)?;
+    }
+    Ok(firsts)
 }
 
 /// Whether a use names a type.
@@ -103,8 +114,8 @@ fn first_role(is_extended: bool, others: &[Component]) -> Role
     }
 }
 
-/// Whether a scope is around another one, in any number of steps.
-fn is_farther_out(scope: &str, outer: &str) -> bool
+/// Whether a scope is around another one, in any number of steps. Takes no memory.
+pub fn is_farther_out(scope: &str, outer: &str) -> bool
     ensures { IsTrue result ↔ IsFartherOut scope.now outer.now }
 {
     let mut next = scope_around(scope);
@@ -118,15 +129,14 @@ fn is_farther_out(scope: &str, outer: &str) -> bool
 }
 
 /// Whether a scope is farther out than a file's package.
-fn is_beyond_package(
+pub(crate) fn is_beyond_package(
     alloc: Global,
     namespace: &Namespace,
     file: usize,
     start: &str,
 ) -> Result<bool, AllocError>
     requires { file < length namespace.now }
-    ensures { IfOk result (λ is. IsTrue is ↔ ((facts : Facts) × HasFacts namespace.now file facts
-        × IsFartherOut (package_of facts.package_name (length facts.package_name)) start.now)) }
+    ensures { IfOk result (λ is. IsTrue is ↔ IsBeyondPackage namespace.now file start.now) }
 {
     match namespace.facts_of(file) {
         Some(facts) => {

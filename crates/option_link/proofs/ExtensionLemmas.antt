@@ -145,23 +145,26 @@ pub inside_braces : (option : FileOption) (number : ℕ) (extended scope : List 
     → IsAround extended scope → IsScope option number extended scope
 inside_braces option number extended scope is around = inr (leb-true option.setting.parts number is, around)
 
+-- the scope from which a name is looked up is that one
+module _ (files : List File) (option : FileOption) (number : ℕ) (context : Context) (extended scope : List ℕ)
+    (called : IsExtendedName files option context extended) (is_scope : IsScope option number extended scope) where
+  pub same_scope : (message : DeclaredPlace) (from : List ℕ) → MayBeExtended files option context message
+      → LookedUpFrom files option number message from → from ≡ scope
+  same_scope message _ may (part less) = elim is_scope [
+    | inl one ↦ sym one.1
+    | inr other ↦ absurd (omega (arith, less, other.0))
+  ]
+  same_scope message _ may (from_braces {declaration = d} {outer = f} least stands is) = elim is_scope [
+    | inl one ↦ absurd (omega (arith, least, one.0))
+    | inr other ↦ one_around
+        (subst (λ (n : List ℕ). IsAround n f) (called message d may stands.stands) is) other.1
+  ]
+
 -- ---- the only full name by its words
 
 module _ (files : List File) (file : ℕ) (option : FileOption) (number : ℕ) (context : Context) where
   module _ (clear : IsClear files context) (extended scope : List ℕ)
       (called : IsExtendedName files option context extended) (is_scope : IsScope option number extended scope) where
-    same_scope : (message : DeclaredPlace) (from : List ℕ) → MayBeExtended files option context message
-        → LookedUpFrom files option number message from → from ≡ scope
-    same_scope message _ may (part less) = elim is_scope [
-      | inl one ↦ sym one.1
-      | inr other ↦ absurd (omega (arith, less, other.0))
-    ]
-    same_scope message _ may (from_braces {declaration = d} {outer = f} least stands is) = elim is_scope [
-      | inl one ↦ absurd (omega (arith, least, one.0))
-      | inr other ↦ one_around
-          (subst (λ (n : List ℕ). IsAround n f) (called message d may stands.stands) is) other.1
-    ]
-
     extended_clear : (outer : Context) (message : DeclaredPlace) → IsClear files outer
         → MayBeExtended files option outer message → (d : Declaration) × StandsAs files Message message d
     extended_clear _ message known_clear (extended-options m present) = (m.declaration, m.stands)
@@ -186,7 +189,7 @@ module _ (files : List File) (file : ℕ) (option : FileOption) (number : ℕ) (
           → LacksSoughtName files file option number context has_dot words
       none_sought none = λ message from name may looked found.
           none name (subst (λ (s : List ℕ). LooksFor files file has_dot words s name)
-          (same_scope message from may looked) found)
+          (same_scope files option number context extended scope called is_scope message from may looked) found)
 
   pub lacks_sought : (has_dot : Bool) (words : List (List ℕ))
       → ((message : DeclaredPlace) → MayBeExtended files option context message → ⊥)

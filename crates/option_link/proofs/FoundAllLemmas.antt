@@ -21,12 +21,16 @@ use Rattle.option_link.specs.declared.facts.OptionFacts.{OptionFacts}
 use Rattle.option_link.specs.declared.linker.Found.{Found}
 use Rattle.option_link.specs.declared.place.DeclaredPlace.{DeclaredPlace}
 use Rattle.option_link.specs.declared.target.OptionTarget.{OptionTarget}
+use Rattle.option_link.specs.declared.target.UncertainName.{UncertainName}
 use Rattle.option_link.specs.Fields.{AreInOrder}
 use Rattle.option_link.specs.Contexts.{Leads, NamesIn, StandsIn, behind_spelled}
 use Rattle.option_link.specs.OptionNames.{IsGap, IsOptionTarget, LacksTarget, NamesParts, NamesPlace, NeedsNoTarget}
 use Rattle.option_link.specs.Tables.{IsClear}
 use Rattle.option_link.specs.Found.{AddsParts, AreFound, AreGiven, ArePartsOf, IsBehind, LeadsFrom, first_gap}
+use Rattle.option_link.specs.Uncertain.{IsInDoubt, IsLookedUpFarther, IsUncertainName}
+use Rattle.option_link.specs.Doubts.{IsDoubtHere, first_doubt}
 use Rattle.option_link.proofs.ContextLemmas.{one_context}
+use Rattle.option_link.proofs.DoubtLemmas.{IsFirstDoubt, doubt_more}
 use Rattle.option_link.proofs.LoopLemmas.{some_of}
 use Rattle.option_link.proofs.NameLemmas.{one_named}
 use Rattle.option_link.proofs.TargetLemmas.{by_component_or_reachable, parts_alike}
@@ -77,8 +81,8 @@ rising_push xs x rising below k within =
 
 module _ (files : List File) (known : List OptionFacts) (file : ℕ) (text : List ℕ) (option : FileOption) where
   pub found_none : (found : Found) → found.targets.items ≡ [] → found.given.items ≡ [] → found.gap ≡ None
-      → AreFound files known file text option 0 found
-  found_none found no_targets no_given no_gap = record {
+      → found.uncertain ≡ None → AreFound files known file text option 0 found
+  found_none found no_targets no_given no_gap no_doubt = record {
     targets = λ target. (
       λ there. absurd (in_nothing target (subst (λ (ts : List OptionTarget). Contains ts target) no_targets there)),
       λ its. absurd (omega (arith, its.1)),
@@ -92,6 +96,8 @@ module _ (files : List File) (known : List OptionFacts) (file : ℕ) (text : Lis
         ((number : ℕ) (name : OptionName) → number < 0 → LacksTarget files known file text option number name → ⊥)
         (λ number. (name : OptionName) × IsGap files known file text option number name)) (sym no_gap)
         (λ number name before lacks. omega (arith, before));
+    uncertain = subst (IsFirstDoubt files known file text option 0) (sym no_doubt)
+        (λ number behind before doubt. omega (arith, before));
   }
     where
       none_given : (k : ℕ) (its : Option Context) → slice_get [] k ≡ Some its → ⊥
@@ -131,6 +137,18 @@ module _ (files : List File) (known : List OptionFacts) (file : ℕ) (text : Lis
       by None none = λ number name gap. none number name
           (omega (arith, all, slice_get_within option.setting.names number name gap.lacks.numbered)) gap.lacks
       by (Some number) some = some
+
+  pub all_doubts : MatchOption found.uncertain
+      ((number behind : ℕ) → IsInDoubt files known file text option number behind → ⊥)
+      (IsUncertainName files known file text option)
+  all_doubts = by found.uncertain are.uncertain
+    where
+      by : (uncertain : Option UncertainName) → IsFirstDoubt files known file text option count uncertain
+          → MatchOption uncertain ((number behind : ℕ) → IsInDoubt files known file text option number behind → ⊥)
+          (IsUncertainName files known file text option)
+      by None none = λ number behind doubt. none number behind
+          (omega (arith, all, slice_get_within option.setting.names number doubt.name doubt.names.numbered)) doubt
+      by (Some uncertain) some = some
 
 -- ---- one more
 
@@ -445,9 +463,45 @@ module _ (files : List File) (origins : HaveOrigins files) (clear : NoClash Keep
         (subst (λ (k : ℕ). LacksTarget files known file text option k other) here lacks)))
   ]
 
+  -- ---- the uncertain name
+
+  -- it is in doubt behind this
+  doubt_this : (behind : Option ℕ) → MatchOption behind
+      ((b : ℕ) → IsDoubtHere files file text option number name context target b → ⊥)
+      (IsDoubtHere files file text option number name context target)
+      → MatchOption behind ((b : ℕ) → IsInDoubt files known file text option number b → ⊥)
+      (IsInDoubt files known file text option number)
+  doubt_this None none = λ b doubt. none b (here b doubt)
+    where
+      here : (b : ℕ) → IsInDoubt files known file text option number b
+          → IsDoubtHere files file text option number name context target b
+      here b doubt = record {
+        inner = doubt.names.context;
+        in_context = in_this doubt.names.context doubt.names.stands;
+        is = record {
+          at = doubt.at;
+          is_target = names_this doubt.name doubt.at doubt.names;
+          farther = subst (λ n. IsLookedUpFarther files file text option number n doubt.names.context)
+              (same_name doubt.name doubt.names.numbered) doubt.farther;
+          first = doubt.first;
+        };
+      }
+  doubt_this (Some b) some =
+      let place = place_named some.is.at some.is.is_target in
+      let same : some.inner ≡ place.context =
+      same_Some some.inner place.context (sym some.in_context ∙ in_this place.context place.stands) in
+      record {
+        name = name;
+        at = some.is.at;
+        names = place;
+        farther = subst (IsLookedUpFarther files file text option number name) same some.is.farther;
+        first = some.is.first;
+      }
+
   -- ---- all of it
 
   pub found_more : (old new : Found) (given : Option Context) (is : Bool) (parts : Option (List Entity))
+      (unread : Option ℕ)
       → AreFound files known file text option number old → ArePartsOf files name behind target parts
       → AddsParts number parts old.targets.items new.targets.items → new.given.items ≡ old.given.items ++ given ∷ []
       → ((outer : Context) → context ≡ Some outer → MatchOption target
@@ -457,8 +511,12 @@ module _ (files : List File) (origins : HaveOrigins files) (clear : NoClash Keep
       (λ inner. Leads files known file text option number name outer inner × IsClear files inner))
       → (context ≡ None → given ≡ None) → (IsTrue is
       ↔ ((target ≡ None) × (NeedsNoTarget files known file text option number name → ⊥)))
-      → new.gap ≡ first_gap old.gap number is → AreFound files known file text option (number + 1) new
-  found_more old new given is parts so_far are adds made leads none iff gap_is = record {
+      → new.gap ≡ first_gap old.gap number is → MatchOption unread
+      ((b : ℕ) → IsDoubtHere files file text option number name context target b → ⊥)
+      (IsDoubtHere files file text option number name context target)
+      → new.uncertain ≡ first_doubt old.uncertain number unread
+      → AreFound files known file text option (number + 1) new
+  found_more old new given is parts unread so_far are adds made leads none iff gap_is doubt doubt_is = record {
     targets = targets_more old.targets.items new.targets.items so_far.targets parts are adds;
     rising = rising_more old.targets.items new.targets.items so_far.targets parts are adds so_far.rising;
     each = omega (arith, ap length made, length_push old.given.items given, so_far.each);
@@ -467,4 +525,7 @@ module _ (files : List File) (origins : HaveOrigins files) (clear : NoClash Keep
         ((n : ℕ) (other : OptionName) → n < number + 1 → LacksTarget files known file text option n other → ⊥)
         (λ n. (other : OptionName) × IsGap files known file text option n other)) (sym gap_is)
         (gap_more old.gap is iff so_far.gap);
+    uncertain = subst (IsFirstDoubt files known file text option (number + 1)) (sym doubt_is)
+        (doubt_more files known file text option number old.uncertain unread so_far.uncertain
+        (doubt_this unread doubt));
   }

@@ -1,5 +1,5 @@
 -- The extensions of message sets that messages declare for themselves.
-use Rattle.std.proofs.Common.{◌≡◌, ◌↔◌, inl, inr, ℕ, ◌+◌, ◌<◌, ◌≤◌, Bool, List, Option, Some, None, MatchOption}
+use Rattle.std.proofs.Common.{◌≡◌, ◌↔◌, inl, inr, ℕ, ◌+◌, ◌<◌, Bool, List, Option, Some, None, MatchOption}
 use Rattle.std.proofs.Common.{IsTrue, length, refl, ap, sym, ◌∙◌, subst, arith}
 use Rattle.std.proofs.lemmas.Bool.{cases_lt, false≢true}
 use Rattle.std.specs.Option.{is_some}
@@ -26,7 +26,6 @@ use Rattle.option_link.specs.Places.{StandsAs, place_at}
 use Rattle.option_link.specs.Fields.{AreInOrder, Extends, FieldGives, IsField, IsFieldOf, IsFirstItem, IsItem}
 use Rattle.option_link.specs.Fields.IsFieldOf.{own as of-own, extending as of-extending}
 use Rattle.option_link.specs.Said.{Says}
-use Rattle.option_link.specs.Contexts.{NamesAs}
 use Rattle.option_link.specs.Contexts.NamesAs.{field as names-field, group as names-group, extension as names-extension}
 use Rattle.option_link.specs.Contexts.NamesAs.{item as names-item, packed as names-packed, value as names-value}
 use Rattle.option_link.specs.Tables.{IsOnly, IsOwned}

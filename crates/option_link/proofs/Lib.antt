@@ -55,6 +55,8 @@ pub mod GivingLemmas
 pub mod FitLemmas
 pub mod FrontLemmas
 pub mod PartLemmas
+-- Which of them may name another field
+pub mod DoubtLemmas
 pub mod FoundAllLemmas
 -- Names in options of a part of files: declarations by their places, and what the names name
 pub mod PartPlaceLemmas
@@ -62,3 +64,7 @@ pub mod PartContextLemmas
 pub mod PartItemLemmas
 pub mod PartNameLemmas
 pub mod PartTargetLemmas
+-- What is known of files with facts is known among mended files
+mod CertainMendedLemmas
+-- Names in options that aren't in doubt name what they named, however files are mended
+pub mod CertainLemmas

@@ -1,5 +1,5 @@
 -- The extensions of message sets that messages of a part declare for themselves, as in the whole.
-use Rattle.std.proofs.Common.{◌≡◌, ◌∙◌, ◌↔◌, ℕ, Bool, List, sym, subst}
+use Rattle.std.proofs.Common.{◌≡◌, ◌↔◌, ℕ, Bool, List, sym, subst}
 use Rattle.proto_decl.specs.declared.declaration.DeclarationKind.TheVariants.{Field}
 use Rattle.proto_visibility.specs.Files.{File, HaveOwnPaths}
 use Rattle.proto_visibility.specs.Knows.{NameKind, KnowsAs}

@@ -39,7 +39,7 @@ use Rattle.option_link.proofs.PartPlaceLemmas.{as_back, as_to, beside_is, field_
 use Rattle.option_link.proofs.PartPlaceLemmas.{field_to}
 use Rattle.option_link.proofs.PartPlaceLemmas.{own_field_back, own_field_to, own_group_back, own_group_to}
 use Rattle.option_link.proofs.PartPlaceLemmas.{owner_deep, placed_in, says_back, says_to}
-use Rattle.option_link.proofs.PartContextLemmas.{ContextIn, Deep, IsDeepIn, Placed, context_at, to, extended_back}
+use Rattle.option_link.proofs.PartContextLemmas.{ContextIn, Deep, IsDeepIn, Placed, context_at, extended_back}
 use Rattle.option_link.proofs.PartContextLemmas.{extended_to}
 use Rattle.option_link.proofs.PartContextLemmas.{field_gives_back, field_gives_to, fields_back, fields_to, from_entries}
 use Rattle.option_link.proofs.PartContextLemmas.{from_enum, from_message, from_options, from_skipped, from_untold}

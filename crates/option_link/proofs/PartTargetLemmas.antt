@@ -1,7 +1,6 @@
 -- What options of a source of a part name, and their gaps, as in the whole.
 use Rattle.std.proofs.Common.{◌≡◌, ◌∙◌, ◌↔◌, inl, inr, ℕ, ◌+◌, ◌<◌, List, get_or, length, map, Some, ap, sym, refl}
 use Rattle.std.proofs.Common.{subst, arith}
-use Rattle.std.specs.List.{slice_get}
 use Rattle.std.specs.Option.{option_map}
 use Rattle.std.proofs.lemmas.List.{length-map}
 use Rattle.std.proofs.lemmas.Bool.{cases_lt}

@@ -1,5 +1,5 @@
 -- What names in a source's options name is in files that the source reaches, and that aren't left out.
-use Rattle.std.proofs.Common.{◌≡◌, ℕ, List, sym, subst}
+use Rattle.std.proofs.Common.{ℕ, List, sym, subst}
 use Rattle.proto_decl.specs.declared.declaration.DeclarationKind.{DeclarationKind}
 use Rattle.proto_options.specs.declared.fields.FieldKind.{FieldKind}
 use Rattle.proto_options.specs.declared.names.OptionName.{OptionName}
@@ -17,7 +17,7 @@ use Rattle.option_link.specs.declared.contexts.Context.{Context}
 use Rattle.option_link.specs.declared.contexts.Context.TheVariants as inside
 use Rattle.option_link.specs.declared.facts.OptionFacts.{OptionFacts}
 use Rattle.option_link.specs.declared.place.DeclaredPlace.{DeclaredPlace}
-use Rattle.option_link.specs.Fields.{FieldGives, KindGives, MapGives, TypeAt, TypeGives, ValueGives}
+use Rattle.option_link.specs.Fields.{KindGives, MapGives, TypeAt, TypeGives}
 use Rattle.option_link.specs.Fields.KindGives.{scalar as kind-scalar, named as kind-named, group as kind-group}
 use Rattle.option_link.specs.Fields.KindGives.{entries as kind-entries}
 use Rattle.option_link.specs.Fields.MapGives.{scalar as map-scalar, named as map-named}

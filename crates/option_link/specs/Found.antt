@@ -35,6 +35,7 @@ use Rattle.option_link.specs.Contexts.{HasFieldsOf, HasWords, IsReserved, IsTake
 use Rattle.option_link.specs.Contexts.{MayBeExtended, NamesAs, StandsIn, behind_spelled, options_message}
 use Rattle.option_link.specs.OptionNames.{IsOptionTarget, IsGap, LacksTarget, NamesParts}
 use Rattle.option_link.specs.Tables.{IsClear, IsOnly, IsOwned}
+use Rattle.option_link.specs.Uncertain.{IsInDoubt, IsUncertainName}
 
 -- ---- plain names
 
@@ -308,7 +309,7 @@ AreGiven files known file text option given = (k : ℕ) (its : Option Context) �
     → MatchOption its ((inner : Context) → LeadsFrom files known file text option k inner → ⊥)
     (λ inner. LeadsFrom files known file text option k inner × IsClear files inner)
 
--- what the first so many names name, and lead to, and the gap among them
+-- what the first so many names name, and lead to, and the gap and the uncertain name among them
 pub record AreFound (files : List File) (known : List OptionFacts) (file : ℕ) (text : List ℕ) (option : FileOption)
     (count : ℕ) (found : Found) : Type 0 where
   pub targets : (target : OptionTarget) → Contains found.targets.items target
@@ -319,3 +320,6 @@ pub record AreFound (files : List File) (known : List OptionFacts) (file : ℕ) 
   pub gap : MatchOption found.gap
       ((number : ℕ) (name : OptionName) → number < count → LacksTarget files known file text option number name → ⊥)
       (λ number. (name : OptionName) × IsGap files known file text option number name)
+  pub uncertain : MatchOption found.uncertain
+      ((number behind : ℕ) → number < count → IsInDoubt files known file text option number behind → ⊥)
+      (IsUncertainName files known file text option)

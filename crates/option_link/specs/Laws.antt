@@ -14,10 +14,12 @@ use Rattle.proto_visibility.specs.Reaches.{HasOptionsIn, IsReachable, LinksOptio
 use Rattle.option_link.specs.declared.facts.OptionFacts.{OptionFacts}
 use Rattle.option_link.specs.declared.place.DeclaredPlace.{DeclaredPlace}
 use Rattle.option_link.specs.declared.target.OptionTarget.{OptionTarget}
+use Rattle.option_link.specs.declared.target.UncertainName.{UncertainName}
 use Rattle.option_link.specs.declared.contexts.Context.{Context}
 use Rattle.option_link.specs.Fields.{AreInOrder, IsOwnField}
 use Rattle.option_link.specs.Contexts.{HasFieldsOf, HasWords, IsMessageNamed, IsOptionsMessage, StandsIn}
 use Rattle.option_link.specs.OptionNames.{IsOptionTarget, IsGap, NamesPlace}
+use Rattle.option_link.specs.Uncertain.{IsUncertainName}
 
 -- a name in an option is looked up in one thing at most, and so has one target at most
 abbrev pub OneContextAName : Type 0
@@ -36,6 +38,12 @@ abbrev pub OneGapAnOption : Type 0
 OneGapAnOption = (files : List File) (known : List OptionFacts) (file : ℕ) (text : List ℕ) (option : FileOption)
     (number other : ℕ) (name its : OptionName) → IsGap files known file text option number name
     → IsGap files known file text option other its → number ≡ other
+
+-- and one uncertain name, behind one file
+abbrev pub OneUncertainNameAnOption : Type 0
+OneUncertainNameAnOption = (files : List File) (known : List OptionFacts) (file : ℕ) (text : List ℕ)
+    (option : FileOption) (a b : UncertainName) → IsUncertainName files known file text option a
+    → IsUncertainName files known file text option b → a ≡ b
 
 -- Where names in a source's options are linked, what they name is in a reachable file: so of what they name, names don't
 -- clash.

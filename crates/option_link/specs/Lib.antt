@@ -15,7 +15,11 @@ pub mod Contexts
 pub mod Messages
 -- what the options of a file name
 pub mod OptionNames
+-- which names may name another field once a file can be read, and that no other ones may
+pub mod Uncertain
+pub mod Certain
 pub mod Found
+pub mod Doubts
 pub mod KnownFields
 pub mod Laws
 -- names in options, in a part of files

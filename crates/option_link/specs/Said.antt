@@ -1,6 +1,6 @@
 -- What messages say, beside their fields, of the names in values of them: that a name is reserved for no field (proto3
 -- specification, "Reserved"), and that the message is a message set (descriptor.proto, `message_set_wire_format`).
-use Rattle.std.specs.Prelude.{◌≡◌, ◌<◌, ℕ, Option, None, Some, List, [], Contains}
+use Rattle.std.specs.Prelude.{◌≡◌, ℕ, Option, None, Some, List, [], Contains}
 use Rattle.std.specs.List.{slice_get}
 use Rattle.std.specs.List.Sorted.{IsNonDecreasingBy}
 use denote.Ref.{Bor}

@@ -1,9 +1,9 @@
 -- The table in which declarations are looked for, and what is found there.
-use Rattle.std.specs.Prelude.{◌≡◌, ◌<◌, ◌↔◌, ℕ, Bool, true, false, IsTrue, Some}
-use Rattle.std.specs.Prelude.{List, [], ◌∷◌, Contains, length}
+use Rattle.std.specs.Prelude.{◌≡◌, ◌<◌, ◌↔◌, ℕ, Bool, true, IsTrue, Some}
+use Rattle.std.specs.Prelude.{List, ◌∷◌, Contains, length}
 use Rattle.std.specs.List.{slice_get}
 use Rattle.std.specs.List.Sorted.{IsNonDecreasingBy}
-use Rattle.proto_decl.specs.Names.{qualified, dotted, hash64}
+use Rattle.proto_decl.specs.Names.{hash64}
 use Rattle.proto_decl.specs.Imports.{start_of}
 use Rattle.proto_decl.specs.Facts.{Facts, component_spans}
 use Rattle.proto_decl.specs.declared.declaration.Declaration.{Declaration}
@@ -11,16 +11,14 @@ use Rattle.proto_decl.specs.declared.declaration.DeclarationKind.TheVariants.{Me
 use Rattle.proto_decl.specs.declared.uses.Use.{Use}
 use Rattle.proto_options.specs.declared.fields.FieldFact.{FieldFact}
 use Rattle.proto_visibility.specs.Files.{File, HasFacts}
-use Rattle.proto_visibility.specs.Knows.{NameKind, IsOwner, is_aggregate}
+use Rattle.proto_visibility.specs.Knows.{NameKind, IsOwner}
 use Rattle.proto_visibility.specs.Knows.NameKind.{OfDeclaration}
 use Rattle.proto_visibility.specs.Sees.{Sees}
-use Rattle.proto_link.specs.Resolves.{Innermost}
 use Rattle.option_link.specs.declared.contexts.Context.{Context}
 use Rattle.option_link.specs.declared.contexts.Context.TheVariants as inside
 use Rattle.option_link.specs.declared.place.DeclaredPlace.{DeclaredPlace}
 use Rattle.option_link.specs.declared.table.Listed.{Listed}
 use Rattle.option_link.specs.Places.{Stands, StandsAs, place_at}
-use Rattle.option_link.specs.Lookups.{is_any}
 
 -- something of a file, as it is listed by its number among the others there
 abbrev pub listed_by : {A : Type 0} → (hash : A → ℕ) → DeclaredPlace → A → Listed

@@ -26,7 +26,7 @@ use std::alloc::{AllocError, Global};
 
 impl<'k, 'n, 'a, 't> Asked<'k, 'n, 'a, 't> {
     /// The full name of the messages that names in parentheses or in brackets extend.
-    fn extended_name(
+    pub(crate) fn extended_name(
         self,
         alloc: Global,
         context: Context,
@@ -77,7 +77,7 @@ impl<'k, 'n, 'a, 't> Asked<'k, 'n, 'a, 't> {
     }
 
     /// The scope from which a name is looked up that extends messages with this full name.
-    fn scope_of<'s>(&'s self, number: usize, extended: &'s str) -> &'s str
+    pub(crate) fn scope_of<'s>(&'s self, number: usize, extended: &'s str) -> &'s str
         requires { 0 < length extended.now }
         ensures { IsScope self.now.option.now number extended.now result.now }
     {

@@ -1,9 +1,10 @@
 //! The laws.
 
 ghost use Rattle.option_link.specs.Laws as laws;
+ghost use Rattle.option_link.specs.Certain.{CertainOptionNamesAlike};
 ghost use Rattle.option_link.specs.Parts.{PartsNameAlike};
 
-use proto_decl::{facts_are_filled, facts_in_order};
+use proto_decl::{facts_are_filled, facts_in_order, prefixes_are_entities, scopes_are_known};
 
 /// A name in an option is looked up in one thing at most.
 pub fn one_context_a_name()
@@ -26,6 +27,11 @@ pub fn one_gap_an_option()
     ensures { laws.OneGapAnOption }
 {}
 
+/// An option has one uncertain name at most, behind one file.
+pub fn one_uncertain_name_an_option()
+    ensures { laws.OneUncertainNameAnOption }
+{}
+
 /// What an option of a source names is in a reachable file, where names in its options are linked.
 pub fn targets_are_reachable()
     ensures { laws.TargetsAreReachable }
@@ -46,3 +52,14 @@ pub fn each_field_is_named()
 pub fn parts_name_alike()
     ensures { PartsNameAlike }
 {}
+
+/// If files without facts are mended, a name in an option names what it named, unless it, or one in front of it, is in
+/// doubt, a name clashes, other files have the messages of options, a type on the way is another one, or another field
+/// there is an item of a message set.
+pub fn certain_option_names_alike()
+    ensures { CertainOptionNamesAlike }
+{
+    facts_are_filled();
+    prefixes_are_entities();
+    scopes_are_known();
+}

@@ -29,6 +29,7 @@ mod types;
 
 // What names in options are looked up in, and what they name there.
 mod contexts;
+mod doubts;
 mod extensions;
 mod fronts;
 mod giving;
@@ -49,9 +50,10 @@ mod laws;
 
 pub use facts::{FilesBeside, OptionFacts, fields_are_in_order};
 pub use laws::{
-    each_field_is_named, each_source_has_its_options_message, one_context_a_name,
-    one_gap_an_option, one_target_a_name, parts_name_alike, targets_are_reachable,
+    certain_option_names_alike, each_field_is_named, each_source_has_its_options_message,
+    one_context_a_name, one_gap_an_option, one_target_a_name, one_uncertain_name_an_option,
+    parts_name_alike, targets_are_reachable,
 };
 pub use linker::OptionLinker;
 pub use place::DeclaredPlace;
-pub use target::{OptionTarget, OptionTargets};
+pub use target::{OptionTarget, OptionTargets, UncertainName};

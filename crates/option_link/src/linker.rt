@@ -17,6 +17,9 @@ ghost use Rattle.option_link.specs.Contexts.{Leads, NamesIn, StandsIn};
 ghost use Rattle.option_link.specs.OptionNames.{NeedsNoTarget};
 ghost use Rattle.option_link.specs.Tables.{IsClear};
 ghost use Rattle.option_link.specs.Found.{AddsParts, AreFound, ArePartsOf, HasParts, IsBehind, first_gap};
+ghost use Rattle.option_link.specs.Uncertain.{IsInDoubt, IsUncertainName};
+ghost use Rattle.option_link.specs.Doubts.{IsDoubtHere, IsDoubtOf, first_doubt};
+ghost use Rattle.proto_link.specs.Uncertain.{IsFirstUnreadIf};
 
 use crate::contexts::Context;
 use crate::facts::FilesBeside;
@@ -29,7 +32,7 @@ use crate::often_used::OftenUsed;
 use crate::place::DeclaredPlace;
 use crate::said::SaidOfMessages;
 use crate::table::DeclarationTable;
-use crate::target::{OptionTarget, OptionTargets};
+use crate::target::{OptionTarget, OptionTargets, UncertainName};
 use basics::Sequence;
 use proto_decl::{facts_are_filled, facts_in_order};
 use proto_link::{Entity, Linker};
@@ -46,6 +49,8 @@ pub struct OptionLinker<'n, 'a, 't> {
     known: &'n FilesBeside<'n>,
     table: DeclarationTable<'n, 'a, 't>,
     often: KnownFields,
+    /// For each file the first of those without facts that it sees.
+    unread: Vec<Option<usize>>,
     said: SaidOfMessages<'n>,
 }
 
@@ -53,6 +58,8 @@ impl<'n, 'a, 't> Model for OptionLinker<'n, 'a, 't> {
     ghost use Rattle.std.specs.Prelude.{◌≡◌};
     ghost use Rattle.option_link.specs.KnownFields.{AreKnownFields};
     ghost use Rattle.option_link.specs.Linked.{LinkedOptions, AreKnown};
+    ghost use Rattle.proto_link.specs.Uncertain.{AreFirstUnread};
+    ghost use Rattle.std.specs.Prelude.{length};
 
     ghost Value = { LinkedOptions };
 
@@ -60,6 +67,7 @@ impl<'n, 'a, 't> Model for OptionLinker<'n, 'a, 't> {
 
     ghost invariant = { λ options. AreKnown (record { files = options.table; known = options.known.now })
         × AreKnownFields options.table options.known.now options.often.fields.items
+        × AreFirstUnread options.table (length options.table) options.unread.items
         × (options.said ≡ options.known.now) };
 }
 
@@ -82,11 +90,13 @@ impl<'n, 'a, 't> OptionLinker<'n, 'a, 't> {
         let messages = OptionMessages::find(alloc, &table)?;
         table.keep_messages(messages);
         let often = fields_of(alloc, &table, known, numbers.as_slice())?;
+        let unread = linker.first_unread_files(alloc)?;
         let said = SaidOfMessages::find(alloc, known)?;
         Ok(OptionLinker {
             known,
             table,
             often,
+            unread,
             said,
         })
     }
@@ -99,9 +109,20 @@ impl<'n, 'a, 't> OptionLinker<'n, 'a, 't> {
         self.known.options_of(file)
     }
 
-    /// What the names in an option of a file name, and the first one that names nothing and should. `text` is the text
-    /// of the file, which has to be a source, and names in its options have to be linked. An error means that memory was
-    /// refused.
+    /// The first of the files without facts that a file sees.
+    fn first_unread(&self, file: usize) -> Option<usize>
+        requires { file < length self.now.files }
+        ensures { IsFirstUnreadIf self.now.files file result }
+    {
+        match first_at(self.unread.as_slice(), file) {
+            Some(first) => first,
+            None => None,
+        }
+    }
+
+    /// What the names in an option of a file name, the first one that names nothing and should, and the first one that
+    /// may name another field once a file can be read. `text` is the text of the file, which has to be a source, and
+    /// names in its options have to be linked. An error means that memory was refused.
     pub fn targets<'k>(
         &'k self,
         alloc: Global,
@@ -120,6 +141,9 @@ impl<'n, 'a, 't> OptionLinker<'n, 'a, 't> {
             number name → ⊥)
             (λ number. (name : OptionName) × IsGap self.now.files self.now.known file text.now option.now
             number name)) }
+        ensures uncertain { IfOk result (λ found. MatchOption found.uncertain
+            ((number behind : ℕ) → IsInDoubt self.now.files self.now.known file text.now option.now number behind → ⊥)
+            (IsUncertainName self.now.files self.now.known file text.now option.now)) }
     {
         let often = OftenUsed::new(&self.table, self.known, &self.often);
         let files = KnownFiles {
@@ -133,9 +157,17 @@ impl<'n, 'a, 't> OptionLinker<'n, 'a, 't> {
             file,
             text,
             option,
+            unread: self.first_unread(file),
         };
         all_targets(alloc, asked)
     }
+}
+
+/// What there is of the file with a number.
+fn first_at(firsts: &[Option<usize>], file: usize) -> Option<Option<usize>>
+    ensures { result ≡ slice_get firsts.now file }
+{
+    firsts.get(file).copied()
 }
 
 /// What is found of an option's names: what they name, and what is looked up in each.
@@ -144,6 +176,7 @@ struct Found {
     targets: Vec<OptionTarget>,
     given: Vec<Option<Context>>,
     gap: Option<usize>,
+    uncertain: Option<UncertainName>,
 }
 
 /// What a name names that is looked up in something, or in nothing.
@@ -300,6 +333,86 @@ fn first_gap(gap: Option<usize>, number: usize, is: bool) -> Option<usize>
     }
 }
 
+/// Behind which file a name is in doubt that is looked up in this and names that, or nothing.
+fn doubt_named(
+    alloc: Global,
+    asked: Asked<'_, '_, '_, '_>,
+    number: usize,
+    name: &OptionName,
+    inner: Context,
+    target: Option<DeclaredPlace>,
+) -> Result<Option<usize>, AllocError>
+    requires file { asked.file < length asked.files.names.now }
+    requires clear { IsClear asked.files.names.now inner }
+    requires first { IsFirstUnreadIf asked.files.names.now asked.file asked.unread }
+    requires named { MatchOption target ⊤ (NamesIn asked.files.names.now asked.files.known.now asked.file asked.text.now
+        asked.option.now number name.now inner) }
+    ensures { IfOk result (λ found. MatchOption found
+        ((behind : ℕ) → IsDoubtOf asked.entry.files.names.now asked.entry.file asked.entry.text.now
+        asked.entry.option.now number name.now inner target behind → ⊥)
+        (IsDoubtOf asked.entry.files.names.now asked.entry.file asked.entry.text.now asked.entry.option.now number
+        name.now inner target)) }
+{
+    match target {
+        Some(_place) => asked.doubt(alloc, number, name, inner),
+        None => Ok(None),
+    }
+}
+
+/// The same of a name that is looked up in something, or in nothing.
+fn doubt_in(
+    alloc: Global,
+    asked: Asked<'_, '_, '_, '_>,
+    number: usize,
+    name: &OptionName,
+    context: Option<Context>,
+    target: Option<DeclaredPlace>,
+) -> Result<Option<usize>, AllocError>
+    requires file { asked.file < length asked.files.names.now }
+    requires clear { MatchOption context ⊤ (IsClear asked.files.names.now) }
+    requires first { IsFirstUnreadIf asked.files.names.now asked.file asked.unread }
+    requires named { MatchOption target ⊤ (λ at. (inner : Context) × (context ≡ Some inner)
+        × NamesIn asked.files.names.now asked.files.known.now asked.file asked.text.now asked.option.now number name.now
+        inner at) }
+    ensures { IfOk result (λ found. MatchOption found
+        ((behind : ℕ) → IsDoubtHere asked.entry.files.names.now asked.entry.file asked.entry.text.now
+        asked.entry.option.now number name.now context target behind → ⊥)
+        (IsDoubtHere asked.entry.files.names.now asked.entry.file asked.entry.text.now asked.entry.option.now number
+        name.now context target)) }
+{
+    match context {
+        Some(inner) => doubt_named(alloc, asked, number, name, inner, target),
+        None => Ok(None),
+    }
+}
+
+/// A name, if it is in doubt behind a file.
+fn doubted(number: usize, behind: Option<usize>) -> Option<UncertainName>
+    ensures { result ≡ first_doubt None number behind }
+{
+    match behind {
+        Some(behind) => Some(UncertainName {
+            name_number: number,
+            behind,
+        }),
+        None => None,
+    }
+}
+
+/// The uncertain name so far, or else this name, if it is in doubt behind a file.
+fn first_doubt(
+    uncertain: Option<UncertainName>,
+    number: usize,
+    behind: Option<usize>,
+) -> Option<UncertainName>
+    ensures { result ≡ first_doubt uncertain number behind }
+{
+    match uncertain {
+        Some(uncertain) => Some(uncertain),
+        None => doubted(number, behind),
+    }
+}
+
 /// Finds what a name of an option names.
 fn find_named(
     alloc: Global,
@@ -310,6 +423,7 @@ fn find_named(
 ) -> Result<(), AllocError>
     requires source { IsSource asked.files.names.now asked.file }
     requires links { LinksOptions asked.files.names.now asked.file }
+    requires first { IsFirstUnreadIf asked.files.names.now asked.file asked.unread }
     requires numbered { slice_get asked.option.now.setting.names number ≡ Some name.now }
     requires found { AreFound asked.files.names.now asked.files.known.now asked.file asked.text.now
         asked.option.now number found.old }
@@ -325,10 +439,12 @@ fn find_named(
     let target = target_in(alloc, asked, number, name, context)?;
     let given = given_in(alloc, asked, number, name, context, target)?;
     let is = is_gap(alloc, asked, number, name, context, target)?;
+    let unread = doubt_in(alloc, asked, number, name, context, target)?;
     let behind = behind_in(alloc, asked, number, name, context)?;
     let parts = parts_of(alloc, asked, name, behind, target)?;
     add_target(number, parts, &mut found.targets)?;
     found.gap = first_gap(found.gap, number, is);
+    found.uncertain = first_doubt(found.uncertain, number, unread);
     found.given.push(given)?;
     Ok(())
 }
@@ -342,6 +458,7 @@ fn find_next(
 ) -> Result<(), AllocError>
     requires source { IsSource asked.files.names.now asked.file }
     requires links { LinksOptions asked.files.names.now asked.file }
+    requires first { IsFirstUnreadIf asked.files.names.now asked.file asked.unread }
     requires within { number < length asked.option.now.setting.names }
     requires found { AreFound asked.files.names.now asked.files.known.now asked.file asked.text.now
         asked.option.now number found.old }
@@ -359,6 +476,7 @@ fn find_next(
 fn all_targets(alloc: Global, asked: Asked<'_, '_, '_, '_>) -> Result<OptionTargets, AllocError>
     requires source { IsSource asked.files.names.now asked.file }
     requires links { LinksOptions asked.files.names.now asked.file }
+    requires first { IsFirstUnreadIf asked.files.names.now asked.file asked.unread }
     ensures targets { IfOk result (λ found. (target : OptionTarget) → Contains found.targets target
         ↔ IsOptionTarget asked.entry.files.names.now asked.entry.files.known.now asked.entry.file
         asked.entry.text.now asked.entry.option.now target) }
@@ -369,12 +487,18 @@ fn all_targets(alloc: Global, asked: Asked<'_, '_, '_, '_>) -> Result<OptionTarg
         (λ number. (name : OptionName) × IsGap asked.entry.files.names.now asked.entry.files.known.now asked.entry.file
         asked.entry.text.now asked.entry.option.now number
         name)) }
+    ensures uncertain { IfOk result (λ found. MatchOption found.uncertain
+        ((number behind : ℕ) → IsInDoubt asked.entry.files.names.now asked.entry.files.known.now asked.entry.file
+        asked.entry.text.now asked.entry.option.now number behind → ⊥)
+        (IsUncertainName asked.entry.files.names.now asked.entry.files.known.now asked.entry.file
+        asked.entry.text.now asked.entry.option.now)) }
 {
     let count = asked.option.setting.names.as_slice().len();
     let mut found = Found {
         targets: Vec::with_capacity(alloc, count)?,
         given: Vec::with_capacity(alloc, count)?,
         gap: None,
+        uncertain: None,
     };
     for number in 0..count {
         find_next(alloc, asked, number, &mut found)?;
@@ -382,5 +506,6 @@ fn all_targets(alloc: Global, asked: Asked<'_, '_, '_, '_>) -> Result<OptionTarg
     Ok(OptionTargets {
         targets: Sequence::from_vec(found.targets),
         gap: found.gap,
+        uncertain: found.uncertain,
     })
 }

@@ -132,7 +132,7 @@ impl<'n, 'a, 't> DeclarationTable<'n, 'a, 't> {
 
     /// The first of the scopes from this one on in which a file knows a word as what is sought. They are looked at from
     /// the root inwards, so that the number of each one's name goes on from that of the one around it.
-    fn innermost<'s>(
+    pub(crate) fn innermost<'s>(
         &self,
         alloc: Global,
         file: usize,

@@ -31,6 +31,8 @@ pub(crate) struct Asked<'k, 'n, 'a, 't> {
     pub(crate) file: usize,
     pub(crate) text: &'k str,
     pub(crate) option: &'k FileOption,
+    /// The first of the files without facts that the file sees.
+    pub(crate) unread: Option<usize>,
     ghost same_said: { said.now ≡ files.known.now },
 }
 

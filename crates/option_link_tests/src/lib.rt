@@ -8,7 +8,11 @@ mod brackets;
 #[cfg(test)]
 mod descriptors;
 #[cfg(test)]
+mod doubts;
+#[cfg(test)]
 mod files;
+#[cfg(test)]
+mod kept;
 #[cfg(test)]
 mod listed;
 #[cfg(test)]

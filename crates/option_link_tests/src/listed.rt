@@ -4,7 +4,10 @@ ghost use Rattle.std.specs.Prelude.{◌≡◌, IsTrue};
 ghost use Rattle.proto_visibility.specs.Reaches.{LinksOptions};
 
 use crate::files::{Known, files_in, files_of, known_of};
-use option_link::{FilesBeside, OptionFacts, OptionLinker, OptionTargets, fields_are_in_order};
+use crate::kept::kept_lines;
+use option_link::{
+    FilesBeside, OptionFacts, OptionLinker, OptionTargets, UncertainName, fields_are_in_order,
+};
 use proto_decl::FileFacts;
 use proto_link::{Duplicates, Entity, LinkFile, Linker, have_own_paths};
 use proto_options::{FileOption, OptionName};
@@ -52,7 +55,18 @@ fn add_target(draft: &mut Draft, linker: &Linker<'_, '_>, parts: &[Entity]) {
     }
 }
 
-/// Adds the line of an option: each name, with what it names or with a `?` if it is the gap.
+/// Adds a mark and the number of the file behind, if this is the uncertain name.
+fn add_doubt(draft: &mut Draft, number: usize, uncertain: Option<UncertainName>) {
+    if let Some(uncertain) = uncertain {
+        if uncertain.name_number == number {
+            draft.add("!");
+            draft.add_size(uncertain.behind);
+        }
+    }
+}
+
+/// Adds the line of an option: each name, with what it names, or with a `?` if it is the gap; the uncertain one with a
+/// `!`.
 fn add_option(
     draft: &mut Draft,
     linker: &Linker<'_, '_>,
@@ -72,6 +86,7 @@ fn add_option(
         if found.gap == Some(number) {
             draft.add("?");
         }
+        add_doubt(draft, number, found.uncertain);
         mark = " ";
     }
     draft.add("\n");
@@ -125,7 +140,7 @@ fn lines_with<'n>(
 }
 
 /// What is listed of files that are linked.
-fn lines_of(
+pub(crate) fn lines_of(
     alloc: Global,
     linker: &Linker<'_, '_>,
     known: &[OptionFacts],
@@ -157,7 +172,7 @@ fn linked_files<'a, 't>(
 }
 
 /// Whether names in the options of the first of these files are linked.
-fn first_links(files: &[LinkFile<'_, '_>]) -> bool
+pub(crate) fn first_links(files: &[LinkFile<'_, '_>]) -> bool
     ensures { IsTrue result → LinksOptions files.now 0 }
 {
     match files {
@@ -187,8 +202,32 @@ fn listing_of(
     }
 }
 
+/// What is listed of files of which an import may name one that is left out.
+fn listing_of_kept<'a>(
+    alloc: Global,
+    linked: &'a [LinkFile<'a, '_>],
+    known: &[OptionFacts],
+    source: &str,
+) -> Made<String> {
+    if !have_own_paths(alloc, linked)? {
+        return Draft::new(alloc).finish();
+    }
+    kept_lines(alloc, linked, known, source, Duplicates::Refuse)
+}
+
+/// The files of a row are linked in one of these ways.
+#[derive(Clone, Copy)]
+enum Tree {
+    /// With those of `google.protobuf`, as one namespace.
+    Added,
+    /// As they are: the row has all files, and each is one.
+    Whole,
+    /// With those of `google.protobuf`, as one namespace, where an import may name a file that is left out.
+    Kept,
+}
+
 /// What is listed of files.
-fn listing(alloc: Global, files: &[FileText<'_>], duplicates: Duplicates) -> Made<String> {
+fn listing(alloc: Global, files: &[FileText<'_>], tree: Tree) -> Made<String> {
     let mut facts = Vec::new(alloc);
     let mut known = Vec::new(alloc);
     for (number, file) in files.iter().enumerate() {
@@ -198,42 +237,32 @@ fn listing(alloc: Global, files: &[FileText<'_>], duplicates: Duplicates) -> Mad
     }
     let linked = linked_files(alloc, files, facts.as_slice())?;
     let source = files.first().map_or("", |file| file.text);
-    listing_of(
-        alloc,
-        linked.as_slice(),
-        known.as_slice(),
-        source,
-        duplicates,
-    )
-}
-
-/// The files of a row, with those of `google.protobuf`, are one namespace; or it has all files, and each is one.
-#[derive(Clone, Copy)]
-enum Tree {
-    /// Those of `google.protobuf` are added.
-    Added,
-    /// The row has all.
-    Whole,
+    let (all, beside) = (linked.as_slice(), known.as_slice());
+    match tree {
+        Tree::Added => listing_of(alloc, all, beside, source, Duplicates::Refuse),
+        Tree::Whole => listing_of(alloc, all, beside, source, Duplicates::Keep),
+        Tree::Kept => listing_of_kept(alloc, all, beside, source),
+    }
 }
 
 /// What is listed of a row.
 fn listing_in(alloc: Global, row: &str, tree: Tree) -> Made<String> {
-    match tree {
-        Tree::Added => {
-            let files = files_of(alloc, row)?;
-            listing(alloc, files.as_slice(), Duplicates::Refuse)
-        }
-        Tree::Whole => {
-            let files = files_in(alloc, row)?;
-            listing(alloc, files.as_slice(), Duplicates::Keep)
-        }
-    }
+    let files = match tree {
+        Tree::Whole => files_in(alloc, row)?,
+        Tree::Added | Tree::Kept => files_of(alloc, row)?,
+    };
+    listing(alloc, files.as_slice(), tree)
 }
 
 /// Whether the options of the first file of a row name what a listing says. They are listed again if not, since memory
 /// may have run out.
 pub(crate) fn is_listed(alloc: Global, row: &str, want: &str) -> bool {
     is_listed_once(alloc, row, Tree::Added, want) || is_listed_once(alloc, row, Tree::Added, want)
+}
+
+/// The same of a row in which an import may name a file that is left out.
+pub(crate) fn is_listed_kept(alloc: Global, row: &str, want: &str) -> bool {
+    is_listed_once(alloc, row, Tree::Kept, want) || is_listed_once(alloc, row, Tree::Kept, want)
 }
 
 /// The same of a row with all files of the tree, of which several may give one name.

@@ -1,4 +1,4 @@
-use Rattle.std.proofs.Common.{◌≡◌, sym, ◌∙◌}
+use Rattle.std.proofs.Common.{sym, ◌∙◌}
 use Rattle.std.proofs.lemmas.Option.{none-some}
 use Rattle.option_link.proofs.ItemLemmas.{some_iff}
 use Rattle.option_link.proofs.LoopLemmas.{never_so}

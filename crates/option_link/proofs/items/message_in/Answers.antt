@@ -1,4 +1,4 @@
-use Rattle.std.proofs.Common.{◌≡◌, sym, ◌∙◌}
+use Rattle.std.proofs.Common.{sym, ◌∙◌}
 use Rattle.option_link.proofs.ItemLemmas.{entries_no_message, enum_no_message, options_no_message, scalar_no_message}
 use Rattle.option_link.proofs.ItemLemmas.{skipped_no_message, untold_no_message}
 use Rattle.option_link.proofs.items.message_in.Goals as goal

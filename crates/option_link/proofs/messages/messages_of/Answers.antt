@@ -1,7 +1,6 @@
 use Rattle.std.proofs.Common.{◌↔◌, List, ℕ, rules, subst}
 use Rattle.std.specs.List.{Contains}
 use Rattle.std.proofs.lemmas.List.Sorted.{IsNonDecreasingBy-from_sort_by_key}
-use Rattle.option_link.specs.declared.messages.NamedMessages.{NamedMessages}
 use Rattle.option_link.specs.declared.place.DeclaredPlace.{DeclaredPlace}
 use Rattle.option_link.specs.Contexts.{IsMessageNamed}
 use Rattle.option_link.proofs.MessageKindLemmas.{sorted_messages}

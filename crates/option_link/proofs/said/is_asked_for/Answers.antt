@@ -1,4 +1,4 @@
-use Rattle.std.proofs.Common.{◌≡◌, ◌↔◌, ◌∙◌, IsTrue, List, ℕ, ap, subst, sym}
+use Rattle.std.proofs.Common.{◌≡◌, ◌↔◌, ◌∙◌, IsTrue, ap, subst, sym}
 use Rattle.proto_options.specs.declared.messages.MessageClause.{MessageClause}
 use Rattle.proto_options.specs.declared.messages.MessageClause.TheVariants as clauses
 use Rattle.option_link.specs.Said.{asked_for}

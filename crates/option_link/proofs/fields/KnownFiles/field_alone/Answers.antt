@@ -1,4 +1,4 @@
-use Rattle.std.proofs.Common.{◌≡◌, List, MatchOption, ap, sym, ◌∙◌, subst}
+use Rattle.std.proofs.Common.{MatchOption, ap, sym, ◌∙◌, subst}
 use Rattle.proto_decl.specs.declared.declaration.Declaration.{Declaration}
 use Rattle.proto_decl.specs.declared.declaration.DeclarationKind.TheVariants.{Field}
 use Rattle.option_link.specs.Tables.{IsOnly}

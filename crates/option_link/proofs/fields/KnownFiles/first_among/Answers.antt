@@ -1,4 +1,4 @@
-use Rattle.std.proofs.Common.{◌≡◌, ◌<◌, arith}
+use Rattle.std.proofs.Common.{arith}
 use Rattle.option_link.proofs.ItemLemmas.{first_by, more_without}
 use Rattle.option_link.proofs.LoopLemmas.{fails}
 use Rattle.option_link.proofs.fields.KnownFiles.first_among.Goals as goal

@@ -1,4 +1,4 @@
-use Rattle.std.proofs.Common.{◌≡◌, ◌<◌, List, length, sym, subst}
+use Rattle.std.proofs.Common.{◌<◌, List, length, sym, subst}
 use Rattle.proto_visibility.specs.Files.{File, HasFacts}
 use Rattle.option_link.specs.Fields.{IsFirstItem, IsItem}
 use Rattle.option_link.specs.declared.place.DeclaredPlace.{DeclaredPlace}

@@ -1,5 +1,4 @@
 use Rattle.std.proofs.Common.{◌≡◌, Some}
-use Rattle.proto_options.specs.declared.fields.FieldFact.{FieldFact}
 use Rattle.option_link.specs.Fields.{FieldGives, IsFieldOf, IsItem}
 use Rattle.option_link.specs.Typed.{IsAroundIn}
 use Rattle.option_link.specs.declared.contexts.Context.TheVariants as inside

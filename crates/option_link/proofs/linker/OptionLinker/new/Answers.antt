@@ -1,6 +1,7 @@
-use Rattle.std.proofs.Common.{List, length, ap, sym, ◌∙◌}
+use Rattle.std.proofs.Common.{List, length, ap, sym, ◌∙◌, subst}
 use Rattle.proto_visibility.specs.Files.{File}
 use Rattle.option_link.specs.declared.facts.OptionFacts.{OptionFacts}
+use Rattle.proto_link.specs.Uncertain.{AreFirstUnread}
 use Rattle.option_link.specs.Linked.{LinkedOptions}
 use Rattle.option_link.proofs.linker.OptionLinker.new.Goals as goal
 
@@ -14,6 +15,8 @@ invariant_of-result c = (
     in_order = c.requires.in_order;
   },
   c.in_ok-often.ensures,
+  subst (λ (files : List File). AreFirstUnread files (length files) c.in_ok-unread.unread.items)
+      (sym (c.keep_messages.ensures ∙ (c.keep_types.ensures ∙ c.in_ok-table.ensures))) c.in_ok-unread.ensures,
   c.in_ok-said.ensures,
 )
 

@@ -1,4 +1,4 @@
-use Rattle.std.proofs.Common.{◌≡◌, IfOk, refl, subst, sym}
+use Rattle.std.proofs.Common.{IfOk, subst, sym}
 use Rattle.proto_options.specs.declared.names.OptionRole.{OptionRole}
 use Rattle.proto_options.specs.declared.names.OptionRole.TheVariants as role
 use Rattle.option_link.specs.Found.{IsBehind}

@@ -1,4 +1,4 @@
-use Rattle.std.proofs.Common.{◌↔◌, Bool, List, ℕ, IsTrue, map, subst}
+use Rattle.std.proofs.Common.{◌↔◌, List, ℕ, IsTrue, map, subst}
 use Rattle.std.specs.String.{string_bytes}
 use Rattle.proto_visibility.specs.Knows.{KnowsAs}
 use Rattle.option_link.specs.Lookups.{is_field}

@@ -1,4 +1,4 @@
-use Rattle.std.proofs.Common.{◌≡◌, List, ℕ, IfOk, MatchOption, map, subst}
+use Rattle.std.proofs.Common.{List, ℕ, IfOk, MatchOption, map, subst}
 use Rattle.std.specs.String.{string_bytes}
 use Rattle.proto_options.specs.declared.names.OptionRole.TheVariants as role
 use Rattle.option_link.specs.Contexts.{NamesAs}

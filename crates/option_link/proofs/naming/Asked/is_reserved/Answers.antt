@@ -1,4 +1,4 @@
-use Rattle.std.proofs.Common.{◌↔◌, IsTrue, sym, ◌∙◌, subst}
+use Rattle.std.proofs.Common.{sym, ◌∙◌, subst}
 use Rattle.std.proofs.lemmas.Bool.{leb-true, false≢true}
 use Rattle.option_link.specs.Contexts.{IsReserved}
 use Rattle.option_link.specs.Said.{Reserves}

@@ -1,4 +1,4 @@
-use Rattle.std.proofs.Common.{◌↔◌, IsTrue, List, ◌∙◌, subst}
+use Rattle.std.proofs.Common.{◌↔◌, IsTrue, List, subst}
 use Rattle.proto_lex.specs.declared.span.Span.{Span}
 use Rattle.option_link.specs.declared.facts.OptionFacts.{OptionFacts}
 use Rattle.option_link.specs.Said.{IsSaid, asked_for, saying}

@@ -1,4 +1,4 @@
-use Rattle.std.proofs.Common.{◌≡◌, ◌<◌, Bool, List, ℕ, IfOk, MatchOption, length, map, sym, subst}
+use Rattle.std.proofs.Common.{◌<◌, Bool, List, ℕ, IfOk, MatchOption, length, map, sym, subst}
 use Rattle.std.specs.Option.{is_some}
 use Rattle.std.specs.String.{string_bytes}
 use Rattle.option_link.specs.Found.{IsScope, IsSoughtName, LacksSoughtName}

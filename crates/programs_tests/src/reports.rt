@@ -118,7 +118,7 @@ protoscip: 1 sources indexed, 1 skipped, 0 imports and 0 uses without a target\n
         words: "index doubt out --faulty skip --include base --report r.jsonl",
         written: DOUBT,
         reported: "{\"column\":8,\"end\":46,\"first\":null,\"import\":\"a.proto\",\"kind\":\"no target\",\"line\":3,\"message\":\"the file with this path is left out\",\"name\":\"MissingImport\",\"offset\":37,\"path\":\"b.proto\"}
-{\"column\":13,\"end\":79,\"first\":{\"column\":null,\"end\":null,\"line\":null,\"offset\":null,\"path\":\"a.proto\"},\"import\":null,\"kind\":\"uncertain\",\"line\":5,\"message\":\"a file that this source sees can't be read: it may declare a nearer type of this name\",\"name\":\"Uncertain\",\"offset\":78,\"path\":\"b.proto\"}
+{\"column\":13,\"end\":79,\"first\":{\"column\":null,\"end\":null,\"line\":null,\"offset\":null,\"path\":\"a.proto\"},\"import\":null,\"kind\":\"uncertain\",\"line\":5,\"message\":\"a file that this source sees can't be read: it may declare this name nearer\",\"name\":\"Uncertain\",\"offset\":78,\"path\":\"b.proto\"}
 {\"column\":1,\"end\":null,\"first\":null,\"import\":null,\"kind\":\"skipped\",\"line\":1,\"message\":\"this character can't be here\",\"name\":\"BadByte\",\"offset\":0,\"path\":\"a.proto\"}
 {\"imports\":1,\"kind\":\"counts\",\"skipped\":1,\"sources\":1,\"status\":0,\"uses\":0}\n\0",
         said: "protoscip: no target: b.proto@37: MissingImport

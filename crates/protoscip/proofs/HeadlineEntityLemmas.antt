@@ -1,6 +1,6 @@
 -- The entities of linked files: what occurs names one, and a symbol's text is that of one.
 use Rattle.std.proofs.Common.{◌≡◌, ◌∙◌, ◌⊎◌, inl, inr, ℕ, zero, ◌+◌, ◌<◌, Some, List, [], ◌∷◌, ◌++◌, take, sym, ap}
-use Rattle.std.proofs.Common.{refl, subst, arith, ⊎_elim, Bool, Option, None}
+use Rattle.std.proofs.Common.{refl, subst, arith, ⊎_elim, Bool, Option}
 use Rattle.std.specs.Prelude.{Contains}
 use Rattle.std.specs.List.{slice_get}
 use Rattle.std.specs.Str.{bytes_eq}

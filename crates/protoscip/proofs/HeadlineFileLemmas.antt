@@ -13,7 +13,7 @@ use Rattle.proto_visibility.specs.declared.omissions.FileOmission.TheVariants as
 use Rattle.proto_visibility.specs.declared.clash.Duplicates.{Duplicates}
 use Rattle.proto_visibility.specs.declared.clash.Duplicates.TheVariants as names
 use Rattle.proto_visibility.specs.Clashes.{Clash}
-use Rattle.proto_visibility.specs.Files.{File, IsPresent, IsSource}
+use Rattle.proto_visibility.specs.Files.{File, IsPresent}
 use Rattle.proto_visibility.specs.Reaches.IsReachable.{reached}
 use Rattle.proto_visibility.proofs.ItemAllLemmas.{file_within}
 use Rattle.proto_visibility.specs.Linked.MayRefuse.{clashing, absent_import}
@@ -26,7 +26,8 @@ use Rattle.scip_build.specs.FactForms.{form_of}
 use Rattle.scip_build.specs.Builds.{IsBuilt, IsBuildFault}
 use Rattle.scip_build.specs.Kept.{IsLeftFor, IsTold}
 use Rattle.scip_build.specs.Kept.IsTold.{of_file, of_import as told_import, of_use, of_ambiguous, of_uncertain, of_gap}
-use Rattle.scip_build.specs.Documents.{asks_in}
+use Rattle.scip_build.specs.Documents.{asked_if, asks_in}
+use Rattle.scip_build.proofs.UncertainNameLemmas.{uncertain_source}
 use Rattle.scip_build.specs.Files.{ReadFile}
 use Rattle.scip_build.specs.Keeping.{linked_of}
 use Rattle.scip_build.specs.Linking.{linked_file, linked_files, HasFault}
@@ -173,7 +174,7 @@ module _ (allows : Seen → Choice → Type 0) (faulty : Faulty) (dialect : Dial
   file_of_told _ (of_ambiguous p is) =
       let source = is.0 in kept_within p.file source.file source.numbered source.present
   file_of_told _ (of_uncertain u n o is numbered out) =
-      let source = is.source in
+      let source = uncertain_source (asked_if asks (linked_of omissions all)) (linked_of omissions all) linked u is in
       let inside : n < length (linked_files all) =
       subst (λ (size : ℕ). n < size) are.one_each (slice_get_within omissions n (Some o) out) in
       (kept_within u.place.file source.file source.numbered source.present, within n inside)

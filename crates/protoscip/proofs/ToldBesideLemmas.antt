@@ -1,7 +1,7 @@
 -- What is told beside what couldn't be read.
 use Rattle.std.proofs.Common.{◌≡◌, ◌∙◌, ℕ, ◌<◌, ◌≤◌, ◌+◌, List, [], ◌∷◌, ◌++◌, length, take, get_or, ap, sym, cond}
 use Rattle.std.proofs.Common.{arith, refl}
-use Rattle.std.specs.List.{All, count_by, filter}
+use Rattle.std.specs.List.{count_by, filter}
 use Rattle.std.specs.List.Sorted.{IsStrictlySortedBy}
 use Rattle.std.proofs.lemmas.List.Elements.{All-filter, filter_more}
 use Rattle.std.proofs.lemmas.List.Kept.{IsStrictlySortedBy-filter}

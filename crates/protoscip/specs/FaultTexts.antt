@@ -90,7 +90,7 @@ text_of (Ambiguous place) =
 text_of (OptionGap place) = refused (codes "Option") (codes "nothing that may stand in this option has this name")
 text_of (Uncertain place behind) =
     refused (codes "Uncertain")
-    (codes "a file that this source sees can't be read: it may declare a nearer type of this name")
+    (codes "a file that this source sees can't be read: it may declare this name nearer")
 text_of TooLarge = said (codes "TooLarge") (codes "an index has at most 2147483647 bytes") STREAM_STATUS
 text_of (Write count) =
     said (codes "Write") (codes "the output can't be made, or its disk is full, or nobody reads it") STREAM_STATUS

@@ -54,8 +54,8 @@ pub enum Fault {
     /// each use names a type. It comes only if names in options are linked.
     #[error("an option without a target, {0}")]
     OptionGap(FilePlace),
-    /// A use that names a type, but may name another one once the file with this number can be read. It is told of an
-    /// index, and nothing stops for it.
+    /// A use that names a type, or a name in an option that names a field, but may name another one once the file with
+    /// this number can be read. It is told of an index, and nothing stops for it.
     #[error("a use that is uncertain, {0}, behind file {1}")]
     Uncertain(FilePlace, usize),
     /// The index would have more than `MAX_INDEX_LEN` bytes.

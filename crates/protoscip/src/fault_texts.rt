@@ -146,7 +146,7 @@ impl Fault {
             }
             Fault::Uncertain(..) => {
                 let sentence =
-                    "a file that this source sees can't be read: it may declare a nearer type of this name";
+                    "a file that this source sees can't be read: it may declare this name nearer";
                 refused("Uncertain", sentence)
             }
             Fault::TooLarge => {

@@ -76,12 +76,12 @@ c.proto\nsyntax = \"proto3\";\nmessage T {}\n",
         duplicates: Duplicates::Refuse,
         skipped: "{\"column\":1,\"end\":null,\"first\":null,\"import\":null,\"kind\":\"skipped\",\"line\":1,\"message\":\"this character can't be here\",\"name\":\"BadByte\",\"offset\":0,\"path\":\"a.proto\"}
 {\"column\":8,\"end\":46,\"first\":null,\"import\":\"a.proto\",\"kind\":\"no target\",\"line\":3,\"message\":\"the file with this path is left out\",\"name\":\"MissingImport\",\"offset\":37,\"path\":\"b.proto\"}
-{\"column\":13,\"end\":79,\"first\":{\"column\":null,\"end\":null,\"line\":null,\"offset\":null,\"path\":\"a.proto\"},\"import\":null,\"kind\":\"uncertain\",\"line\":5,\"message\":\"a file that this source sees can't be read: it may declare a nearer type of this name\",\"name\":\"Uncertain\",\"offset\":78,\"path\":\"b.proto\"}
+{\"column\":13,\"end\":79,\"first\":{\"column\":null,\"end\":null,\"line\":null,\"offset\":null,\"path\":\"a.proto\"},\"import\":null,\"kind\":\"uncertain\",\"line\":5,\"message\":\"a file that this source sees can't be read: it may declare this name nearer\",\"name\":\"Uncertain\",\"offset\":78,\"path\":\"b.proto\"}
 {\"imports\":1,\"kind\":\"counts\",\"skipped\":1,\"sources\":2,\"status\":0,\"uses\":0}
 ",
         refused: "{\"column\":1,\"end\":null,\"first\":null,\"import\":null,\"kind\":\"fault\",\"line\":1,\"message\":\"this character can't be here\",\"name\":\"BadByte\",\"offset\":0,\"path\":\"a.proto\"}
 {\"column\":8,\"end\":46,\"first\":null,\"import\":\"a.proto\",\"kind\":\"fault\",\"line\":3,\"message\":\"the file with this path is left out\",\"name\":\"MissingImport\",\"offset\":37,\"path\":\"b.proto\"}
-{\"column\":13,\"end\":79,\"first\":{\"column\":null,\"end\":null,\"line\":null,\"offset\":null,\"path\":\"a.proto\"},\"import\":null,\"kind\":\"uncertain\",\"line\":5,\"message\":\"a file that this source sees can't be read: it may declare a nearer type of this name\",\"name\":\"Uncertain\",\"offset\":78,\"path\":\"b.proto\"}
+{\"column\":13,\"end\":79,\"first\":{\"column\":null,\"end\":null,\"line\":null,\"offset\":null,\"path\":\"a.proto\"},\"import\":null,\"kind\":\"uncertain\",\"line\":5,\"message\":\"a file that this source sees can't be read: it may declare this name nearer\",\"name\":\"Uncertain\",\"offset\":78,\"path\":\"b.proto\"}
 {\"imports\":1,\"kind\":\"counts\",\"skipped\":1,\"sources\":2,\"status\":1,\"uses\":0}
 ",
         alone: "{\"column\":1,\"end\":null,\"first\":null,\"import\":null,\"kind\":\"fault\",\"line\":1,\"message\":\"this character can't be here\",\"name\":\"BadByte\",\"offset\":0,\"path\":\"a.proto\"}

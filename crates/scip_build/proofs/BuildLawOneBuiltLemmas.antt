@@ -47,10 +47,10 @@ use Rattle.scip_build.specs.Placing.{index_at}
 use Rattle.scip_build.specs.Linking.{linked_file, linked_files, choices_in, choices_of, HasFault}
 use Rattle.scip_build.specs.Documents.{asked_if, asked_in, asks_in, beside_in, known_in, text_of, texts_of}
 use Rattle.scip_build.specs.Documents.{IsToldUse}
-use Rattle.proto_link.specs.Uncertain.{IsUncertain}
 use Rattle.scip_build.specs.Keeping.{as_left_out, linked_numbers, linked_of}
 use Rattle.scip_build.specs.Kept.{IsLeftFor, place_among_all, IsTold, Key, told_key, key_cmp}
 use Rattle.scip_build.specs.Kept.IsTold.{of_file, of_import, of_use, of_ambiguous, of_uncertain, of_gap}
+use Rattle.scip_build.proofs.UncertainNameLemmas.{uncertain_too}
 use Rattle.proto_visibility.specs.declared.fault.LinkFault.TheVariants as link_fault
 use Rattle.scip_build.specs.Builds.{IsBuilt}
 use Rattle.scip_build.specs.Laws.{OneListOfFacts, OneBesideAFile, NoFactsWhereUnreadable, OneFileFault}
@@ -303,7 +303,9 @@ module _ (one : OneListOfFacts) (one_beside : OneBesideAFile) (apart : NoFactsWh
   told_too _ (of_uncertain u n o is_use numbered out) =
       let place : place_among_all a u.place ≡ place_among_all b u.place =
       ap (λ x. place_among_all x u.place) same_omissions in
-      let use_too = subst (λ fs. IsUncertain fs u) kept_files is_use in
+      let use_too = uncertain_too (asked_if (asks_in settings) (linked_of a all))
+      (asked_if (asks_in another) (linked_of b again)) (linked_of a all) (linked_of b again)
+      (linked_files (linked_of a all)) (linked_files (linked_of b again)) kept_asked kept_reads kept_files u is_use in
       let numbered_too =
       subst (λ (x : Omissions). slice_get (linked_numbers x) u.behind ≡ Some n) same_omissions numbered in
       let out_too = subst (λ (x : Omissions). slice_get x n ≡ Some (Some o)) same_omissions out in

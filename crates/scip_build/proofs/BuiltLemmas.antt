@@ -28,9 +28,9 @@ use Rattle.scip_build.specs.Placing.{document_at, index_at, kept_at}
 use Rattle.scip_build.specs.ParsedFiles.{AreParsedFiles}
 use Rattle.scip_build.specs.Keeping.{linked_of}
 use Rattle.scip_build.specs.Ready.{AreOfTree, ArePresent}
-use Rattle.scip_build.specs.Documents.{asked_if, asks_in, IsGapAt, IsUnresolvedAt}
+use Rattle.scip_build.specs.Documents.{asked_if, asked_in, asks_in, IsGapAt, IsUnresolvedAt}
 use Rattle.scip_build.specs.Kept.{told_cmp, AreKept}
-use Rattle.scip_build.specs.Telling.{AreInOrder, all_told, AreKeptFiles, AreUncertainUses, AreUseFaults}
+use Rattle.scip_build.specs.Telling.{AreInOrder, all_told, AreKeptFiles, AreUncertain, AreUseFaults}
 use Rattle.proto_link.specs.declared.uncertain_use.UncertainUse.{UncertainUse}
 use Rattle.proto_visibility.specs.declared.fault.LinkFault.{LinkFault}
 use Rattle.scip_build.specs.Forms.{IsMadeOf, IsLinkedAndMade, IsBuiltOfInForm, IsBuiltInForm}
@@ -119,7 +119,7 @@ pub kept_built : {Out : Type 0} (Is : Document → Out → Type 0) (all parsed :
     (faults : List LinkFault) (uncertain : List UncertainUse) → ArePresent all → settings.faulty ≡ Skip → (of_files : AreKeptFiles settings.duplicates all parsed numbers left)
     → IsMadeOf Is parsed settings made → AreMissing (linked_files parsed) missing
     → AreUseFaults (linked_files parsed) made.unresolved_uses faults
-    → AreUncertainUses (linked_files parsed) uncertain
+    → AreUncertain (asked_in settings parsed) parsed (linked_files parsed) uncertain
     → AreInOrder (all_told left numbers missing faults uncertain made.option_gaps) once
     → IsBuiltOfInForm Is all settings made.choices once made.parts
 kept_built Is all parsed settings made numbers left once missing faults uncertain present skip kept of missing_are
@@ -135,7 +135,8 @@ kept_built Is all parsed settings made numbers left once missing faults uncertai
     let gaps_too = subst Gaps_of kept.kept of.in_form.made.gaps in
     let faults_too = subst (λ (rs : List ReadFile). AreUseFaults (linked_files rs) made.unresolved_uses faults) kept.kept
     faults_are in
-    let uncertain_too = subst (λ (rs : List ReadFile). AreUncertainUses (linked_files rs) uncertain) kept.kept
+    let uncertain_too =
+    subst (λ (rs : List ReadFile). AreUncertain (asked_if asks rs) rs (linked_files rs) uncertain) kept.kept
     uncertain_are in
     let order_too = subst (λ ns. AreInOrder (all_told left ns missing faults uncertain made.option_gaps) once)
     kept.numbers_are order in

@@ -201,9 +201,10 @@ module _ (kept_clear : KeptFilesAreClear) (alike : CertainResolvesAlike) where
           let here = subst (λ fs. IsUncertain fs its_use) (sym (linked_is omissions all)) uncertain in
           let read = subst NoneBroken (sym (linked_is omissions all))
           (kept_clear duplicates files omissions kept.left_out own).1.read in
-          let out = behind_left all omissions (size ∙ length-map all linked_file) present read its_use here in
+          let out = behind_left all omissions (size ∙ length-map all linked_file) present read number behind here.source
+          here.behind in
           told_not out.number ((kept.told_is.exact _).1
-          (of_uncertain its_use out.number out.omission here out.numbered out.left_out))
+          (of_uncertain its_use out.number out.omission (inl here) out.numbered out.left_out))
 
       linked_origins : HaveOrigins (linked_of omissions mended)
       linked_origins k its known =

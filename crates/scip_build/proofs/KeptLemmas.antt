@@ -1,12 +1,14 @@
 -- What is kept of documents, in a form.
 use Rattle.std.proofs.Common.{◌≡◌, ◌∙◌, ◌↔◌, ℕ, ◌+◌, zero, suc, List, [], ◌∷◌, length, map, Option, Some, refl, ap, sym}
-use Rattle.std.proofs.Common.{Result, Ok, Err, inr, subst, arith}
+use Rattle.std.proofs.Common.{Result, Ok, Err, subst, arith}
 use Rattle.std.specs.Prelude.{MatchResult}
 use Rattle.std.specs.List.{AllZip, Contains, slice_get, each_same}
 use Rattle.std.proofs.lemmas.Option.{same_Some, none-some}
 use Rattle.basics.proofs.ListLemmas.{in_nothing}
 use Rattle.option_link.specs.declared.facts.OptionFacts.{OptionFacts}
-use Rattle.scip_model.specs.Options.{HasGapIf}
+use Rattle.proto_link.specs.declared.uncertain_use.UncertainUse.{UncertainUse}
+use Rattle.scip_model.specs.Options.{HasGapIf, HasUncertainIf}
+use Rattle.scip_model.specs.declared.option_told.UncertainPlace.{UncertainPlace}
 use Rattle.proto_lex.specs.declared.span.Span.{Span}
 use Rattle.proto_visibility.specs.declared.files.FilePlace.{FilePlace}
 use Rattle.proto_visibility.specs.Files.{File, IsSource}
@@ -30,7 +32,7 @@ use Rattle.scip_build.specs.declared.settings.Settings.{Settings}
 use Rattle.scip_build.specs.Files.{ReadFile}
 use Rattle.scip_build.specs.Documents.{AreReady, IsDocumentAt, GivesDocument, AllAreDecided, IsUnresolvedAt}
 use Rattle.scip_build.specs.Documents.{asked_in, fault_of_source, texts_of, HaveNoGaps, IsFirstPlace, IsGapAt}
-use Rattle.scip_build.specs.Documents.{IsLeastGap}
+use Rattle.scip_build.specs.Documents.{IsLeastGap, IsUncertainNameAt}
 use Rattle.scip_build.specs.Documents.{MayRefuseDocuments, MayRefuseLinked}
 use Rattle.scip_build.specs.Documents.MayRefuseLinked.{least_is_gap}
 use Rattle.scip_build.specs.declared.fault.BuildFault.{BuildFault}
@@ -38,10 +40,10 @@ use Rattle.scip_build.specs.declared.fault.BuildFault.TheVariants as build
 use Rattle.scip_build.specs.Linking.{linked_files, choices_of}
 use Rattle.scip_build.specs.Making.{IsMade}
 use Rattle.scip_build.specs.Forms.{index_of, ArePartsOf, GivesKept, AreMade, IsMadeInForm, IsMadeOf}
-use Rattle.scip_build.specs.Made.{gaps_from, place_in, unresolved_from}
+use Rattle.scip_build.specs.Made.{gaps_from, name_in, names_from, place_in, unresolved_from}
 use Rattle.scip_build.specs.Repeating.{with_packages}
 use Rattle.scip_build.proofs.DocumentLemmas.{document_in, made_at, is_source_at, list_of, each_of, resolves, refused_of}
-use Rattle.scip_build.proofs.UnresolvedUseLemmas.{use_decided, unresolved_at, unresolved_listed, place_at, listed_from}
+use Rattle.scip_build.proofs.UnresolvedUseLemmas.{use_decided, unresolved_at, unresolved_listed, told_at, listed_from}
 use Rattle.scip_build.proofs.UnresolvedUseLemmas.{none_from}
 use Rattle.scip_build.proofs.OptionGapLemmas.{one_text}
 
@@ -82,17 +84,21 @@ module _ {A Out : Type 0} (Is : A → Out → Type 0) where
 -- ---- what the second phase answers
 
 module _ {Out : Type 0} (Is : Document → Out → Type 0) where
-  -- a document of which this is kept, with its uses that name no type and the gaps of its options
+  -- a document of which this is kept, with its uses that name no type, and the gaps and uncertain names of its options
   record IsMadeFrom (document : PlannedWithOptions) (out : MadeDocument Out) : Type 0 where
     pub kept : Is document.planned.document out.kept
     pub unresolved_uses : out.unresolved ≡ document.planned.unresolved
     pub option_gaps : out.option_gaps ≡ document.option_gaps
+    pub uncertain_names : out.uncertain_names ≡ document.uncertain_names
 
   abbrev uses_in : MadeDocument Out → List Span
   uses_in out = out.unresolved
 
   abbrev gaps_in : MadeDocument Out → List Span
   gaps_in out = out.option_gaps
+
+  abbrev names_in : MadeDocument Out → List UncertainPlace
+  names_in out = out.uncertain_names
 
   abbrev kept_in : MadeDocument Out → Out
   kept_in out = out.kept
@@ -141,14 +147,14 @@ module _ {Out : Type 0} (Is : Document → Out → Type 0) (parsed : List ReadFi
 
     unresolved_there : (place : FilePlace) → Contains (unresolved_from 0 outs) place → IsUnresolvedAt files place
     unresolved_there place there =
-        let of = place_at (uses_in Is) 0 outs place there in
+        let of = told_at place_in (uses_in Is) 0 outs place there in
         let m = from_zip Is made outs zip of.number of.document of.numbered in
-        let listed : Contains m.0.planned.unresolved place.span =
-        subst (λ (spans : List Span). Contains spans place.span) m.2.unresolved_uses of.listed in
+        let listed : Contains m.0.planned.unresolved of.item =
+        subst (λ (spans : List Span). Contains spans of.item) m.2.unresolved_uses of.listed in
         let is = unresolved_at files of.number m.0.planned.unresolved (each of.number m.0 m.1).unresolved_uses
-        (sourced of.number m.0 m.1) place.span listed in
-        let file : of.number ≡ place.file = let e = of.file in omega (arith, e) in
-        let same : place_in of.number place.span ≡ place = ap (λ n. place_in n place.span) file in
+        (sourced of.number m.0 m.1) of.item listed in
+        let number : of.number ≡ 0 + of.number = omega arith in
+        let same : place_in of.number of.item ≡ place = ap (λ n. place_in n of.item) number ∙ of.is in
         subst (IsUnresolvedAt files) same is
 
     unresolved_back : (place : FilePlace) → IsUnresolvedAt files place → Contains (unresolved_from 0 outs) place
@@ -165,7 +171,7 @@ module _ {Out : Type 0} (Is : Document → Out → Type 0) (parsed : List ReadFi
         let file : 0 + place.file ≡ place.file = omega arith in
         let same : place_in (0 + place.file) place.span ≡ place = ap (λ n. place_in n place.span) file in
         subst (Contains (unresolved_from 0 outs)) same
-        (listed_from (uses_in Is) 0 outs place.file out.0 out.1 place.span kept)
+        (listed_from place_in (uses_in Is) 0 outs place.file out.0 out.1 place.span kept)
 
     none_refused : settings.faulty ≡ Refuse → AllResolve files × (unresolved_from 0 outs ≡ [])
     none_refused refuse = (
@@ -173,7 +179,7 @@ module _ {Out : Type 0} (Is : Document → Out → Type 0) (parsed : List ReadFi
           let there = made_at source is in
           resolves parsed files chosen settings count ready source there.0 there.2 refuse facts type_use
           known listed,
-      none_from (uses_in Is) 0 outs (λ number out at.
+      none_from place_in (uses_in Is) 0 outs (λ number out at.
           let m = from_zip Is made outs zip number out at in
           m.2.unresolved_uses ∙ (each number m.0 m.1).refused refuse),
     )
@@ -181,19 +187,19 @@ module _ {Out : Type 0} (Is : Document → Out → Type 0) (parsed : List ReadFi
     gap_there : (place : FilePlace) → Contains (gaps_from 0 outs) place
         → IsGapAt (asked_in settings parsed) parsed files place
     gap_there place there =
-        let of = place_at (gaps_in Is) 0 outs place there in
+        let of = told_at place_in (gaps_in Is) 0 outs place there in
         let m = from_zip Is made outs zip of.number of.document of.numbered in
         let at = each of.number m.0 m.1 in
-        let listed : Contains m.0.option_gaps place.span =
-        subst (λ (spans : List Span). Contains spans place.span) m.2.option_gaps of.listed in
-        let is : IsGapAt (asked_in settings parsed) parsed files (place_in of.number place.span) = record {
+        let listed : Contains m.0.option_gaps of.item =
+        subst (λ (spans : List Span). Contains spans of.item) m.2.option_gaps of.listed in
+        let is : IsGapAt (asked_in settings parsed) parsed files (place_in of.number of.item) = record {
           source = sourced of.number m.0 m.1;
           text = at.text;
           has_text = at.has_text;
-          gap = (at.option_gaps place.span).0 listed;
+          gap = (at.option_gaps of.item).0 listed;
         } in
-        let file : of.number ≡ place.file = let e = of.file in omega (arith, e) in
-        let same : place_in of.number place.span ≡ place = ap (λ n. place_in n place.span) file in
+        let number : of.number ≡ 0 + of.number = omega arith in
+        let same : place_in of.number of.item ≡ place = ap (λ n. place_in n of.item) number ∙ of.is in
         subst (IsGapAt (asked_in settings parsed) parsed files) same is
 
     gap_back : (place : FilePlace) → IsGapAt (asked_in settings parsed) parsed files place
@@ -210,7 +216,42 @@ module _ {Out : Type 0} (Is : Document → Out → Type 0) (parsed : List ReadFi
         let file : 0 + place.file ≡ place.file = omega arith in
         let same : place_in (0 + place.file) place.span ≡ place = ap (λ n. place_in n place.span) file in
         subst (Contains (gaps_from 0 outs)) same
-        (listed_from (gaps_in Is) 0 outs place.file out.0 out.1 place.span kept)
+        (listed_from place_in (gaps_in Is) 0 outs place.file out.0 out.1 place.span kept)
+
+    name_there : (name : UncertainUse) → Contains (names_from 0 outs) name
+        → IsUncertainNameAt (asked_in settings parsed) parsed files name
+    name_there name there =
+        let of = told_at name_in (names_in Is) 0 outs name there in
+        let m = from_zip Is made outs zip of.number of.document of.numbered in
+        let at = each of.number m.0 m.1 in
+        let listed : Contains m.0.uncertain_names of.item =
+        subst (λ (names : List UncertainPlace). Contains names of.item) m.2.uncertain_names of.listed in
+        let is : IsUncertainNameAt (asked_in settings parsed) parsed files (name_in of.number of.item) = record {
+          source = sourced of.number m.0 m.1;
+          text = at.text;
+          has_text = at.has_text;
+          uncertain = (at.uncertain_names of.item).0 listed;
+        } in
+        let number : of.number ≡ 0 + of.number = omega arith in
+        let same : name_in of.number of.item ≡ name = ap (λ n. name_in n of.item) number ∙ of.is in
+        subst (IsUncertainNameAt (asked_in settings parsed) parsed files) same is
+
+    name_back : (name : UncertainUse) → IsUncertainNameAt (asked_in settings parsed) parsed files name
+        → Contains (names_from 0 outs) name
+    name_back name is =
+        let file = name.place.file in
+        let there = made_at file is.source in
+        let out = to_zip Is made outs zip file there.0 there.1 in
+        let text : is.text ≡ there.2.text = one_text parsed file is.text there.2.text is.has_text there.2.has_text in
+        let at : UncertainPlace = record { span = name.place.span; behind = name.behind } in
+        let uncertain = subst (λ t. HasUncertainIf (asked_in settings parsed) files file t at) text is.uncertain in
+        let kept : Contains out.0.uncertain_names at =
+        subst (λ (names : List UncertainPlace). Contains names at) (sym out.2.uncertain_names)
+        ((there.2.uncertain_names at).1 uncertain) in
+        let number : 0 + file ≡ file = omega arith in
+        let same : name_in (0 + file) at ≡ name = ap (λ n. name_in n at) number in
+        subst (Contains (names_from 0 outs)) same
+        (listed_from name_in (names_in Is) 0 outs file out.0 out.1 at kept)
 
   pub kept_of : OneDocument → (outs : List (MadeDocument Out))
       → AnswersEach (GivesKept Is parsed files chosen settings) count outs
@@ -225,6 +266,7 @@ module _ {Out : Type 0} (Is : Document → Out → Type 0) (parsed : List ReadFi
           kept = kept.kept;
           unresolved_uses = kept.unresolved_uses;
           option_gaps = kept.option_gaps;
+          uncertain_names = kept.uncertain_names;
         };
       }) in
       let made : AnswersEach (GivesDocument parsed files chosen settings) count of.items =
@@ -242,6 +284,10 @@ module _ {Out : Type 0} (Is : Document → Out → Type 0) (parsed : List ReadFi
           gaps = λ place. (
             gap_there of.items outs of.kept sourced of.each made_there place,
             gap_back of.items outs of.kept sourced of.each made_there place,
+          );
+          names = λ name. (
+            name_there of.items outs of.kept sourced of.each made_there name,
+            name_back of.items outs of.kept sourced of.each made_there name,
           );
           refused = none_refused of.items outs of.kept sourced of.each made_there;
           list = list_of parsed files chosen settings count ready one of.items made;
@@ -262,24 +308,27 @@ module _ {Out : Type 0} (Is : Document → Out → Type 0) (parsed : List ReadFi
 
 pub parts_of : {Out : Type 0} (Is : Document → Out → Type 0) (parsed : List ReadFile) (files : List File)
     (chosen : Chosen) (settings : Settings) (outs : List (MadeDocument Out)) (parts : Parts Out)
-    (unresolved_uses option_gaps : List FilePlace)
+    (unresolved_uses option_gaps : List FilePlace) (uncertain_names : List UncertainUse)
     → AreMade Is parsed files chosen settings outs
     → length (texts_of parsed) ≡ length files → parts.metadata ≡ Some (metadata_of settings.project_root)
     → parts.documents ≡ map (λ (out : MadeDocument Out). out.kept) outs
     → AreExternalsWith (asked_in settings parsed) files (texts_of parsed) chosen settings.package parts.external_symbols
-    → unresolved_uses ≡ unresolved_from 0 outs → option_gaps ≡ gaps_from 0 outs
-    → IsMadeInForm Is parsed files chosen settings parts unresolved_uses option_gaps
-parts_of {Out} Is parsed files chosen settings outs parts unresolved_uses option_gaps are texts metadata documents
-    externals places gaps =
+    → unresolved_uses ≡ unresolved_from 0 outs → option_gaps ≡ gaps_from 0 outs → uncertain_names ≡ names_from 0 outs
+    → IsMadeInForm Is parsed files chosen settings parts unresolved_uses option_gaps uncertain_names
+parts_of {Out} Is parsed files chosen settings outs parts unresolved_uses option_gaps uncertain_names are texts metadata
+    documents externals places gaps names =
     let index : Index = record {
       metadata = Some (metadata_of settings.project_root);
       documents = are.documents;
       external_symbols = parts.external_symbols;
     } in
-    let made : IsMade parsed files chosen settings index (unresolved_from 0 outs) (gaps_from 0 outs) = record {
+    let Makes : List FilePlace → List FilePlace → List UncertainUse → Type 0 =
+    IsMade parsed files chosen settings index in
+    let made : Makes (unresolved_from 0 outs) (gaps_from 0 outs) (names_from 0 outs) = record {
       decided = are.made.decided;
       unresolved = are.made.unresolved;
       gaps = are.made.gaps;
+      names = are.made.names;
       refused = are.made.refused;
       is = record {
         metadata_is = refl;
@@ -292,8 +341,9 @@ parts_of {Out} Is parsed files chosen settings outs parts unresolved_uses option
     let Kept : List Out → Type 0 = λ kept. AllZip Is are.documents kept in
     record {
       index = index;
-      made = subst (λ ps. IsMade parsed files chosen settings index ps option_gaps) (sym places)
-          (subst (IsMade parsed files chosen settings index (unresolved_from 0 outs)) (sym gaps) made);
+      made = subst (λ ps. Makes ps option_gaps uncertain_names) (sym places)
+          (subst (λ gs. Makes (unresolved_from 0 outs) gs uncertain_names) (sym gaps)
+          (subst (Makes (unresolved_from 0 outs) (gaps_from 0 outs)) (sym names) made));
       are = record {
         metadata = metadata;
         documents = subst Kept (sym documents) are.kept;
@@ -304,16 +354,18 @@ parts_of {Out} Is parsed files chosen settings outs parts unresolved_uses option
 -- the first of all gaps, where faults are refused and there is one, is that for which nothing is made
 pub least_of : {Out : Type 0} (Is : Document → Out → Type 0) (parsed : List ReadFile) (files : List File)
     (chosen : Chosen) (settings : Settings) (parts : Parts Out) (unresolved_uses option_gaps : List FilePlace)
-    → IsMadeInForm Is parsed files chosen settings parts unresolved_uses option_gaps → settings.faulty ≡ Refuse
-    → (place : FilePlace) → IsFirstPlace (Contains option_gaps) place
+    (uncertain_names : List UncertainUse)
+    → IsMadeInForm Is parsed files chosen settings parts unresolved_uses option_gaps uncertain_names
+    → settings.faulty ≡ Refuse → (place : FilePlace) → IsFirstPlace (Contains option_gaps) place
     → IsLeastGap (asked_in settings parsed) parsed files place
-least_of Is parsed files chosen settings parts unresolved_uses option_gaps is refuse place first = record {
-  resolved = (is.made.refused refuse).0;
-  least = record {
-    holds = (is.made.gaps place).0 first.holds;
-    first = λ other gap. first.first other ((is.made.gaps other).1 gap);
-  };
-}
+least_of Is parsed files chosen settings parts unresolved_uses option_gaps uncertain_names is refuse place
+    first = record {
+      resolved = (is.made.refused refuse).0;
+      least = record {
+        holds = (is.made.gaps place).0 first.holds;
+        first = λ other gap. first.first other ((is.made.gaps other).1 gap);
+      };
+    }
 
 -- where there is none, none has a gap
 pub filled_of : (asked : Option (List OptionFacts)) (parsed : List ReadFile) (files : List File)
@@ -330,10 +382,10 @@ pub in_form_of : {Out : Type 0} (Is : Document → Out → Type 0) (parsed : Lis
     → HaveClearNames settings.duplicates (linked_files parsed) → made.choices ≡ map choices_of parsed
     → (settings.faulty ≡ Refuse → made.option_gaps ≡ [])
     → IsMadeInForm Is parsed named.files made.choices (with_packages settings named.ids) made.parts made.unresolved_uses
-    made.option_gaps → IsMadeOf Is parsed settings made
+    made.option_gaps made.uncertain_names → IsMadeOf Is parsed settings made
 in_form_of Is parsed named settings made linked ids has clear choices filled is =
     let In : List File → Packages → Type 0 = λ fs ps. IsMadeInForm Is parsed fs made.choices (with_packages settings ps)
-    made.parts made.unresolved_uses made.option_gaps in
+    made.parts made.unresolved_uses made.option_gaps made.uncertain_names in
     let named_so = subst (In named.files) ids is in
     record {
       clear = clear;
@@ -350,7 +402,7 @@ pub checked_of : {Out : Type 0} (Is : Document → Out → Type 0) (parsed : Lis
     → named.ids ≡ naming settings.package named.ids.repeated → HasRepeated named
     → HaveClearNames settings.duplicates (linked_files parsed) → made.choices ≡ map choices_of parsed
     → IsMadeInForm Is parsed named.files made.choices (with_packages settings named.ids) made.parts made.unresolved_uses
-    made.option_gaps → (result : Result (Made Out) BuildFault)
+    made.option_gaps made.uncertain_names → (result : Result (Made Out) BuildFault)
     → MatchResult result (λ same. (same ≡ made) × (settings.faulty ≡ Refuse → made.option_gaps ≡ []))
     (λ fault. (settings.faulty ≡ Refuse) × (place : FilePlace) × (fault ≡ build.OptionGap place)
     × IsFirstPlace (Contains made.option_gaps) place)
@@ -366,7 +418,7 @@ checked_of Is parsed named settings workers made linked ids has clear choices is
   first,
 ) =
     let least = least_of Is parsed named.files made.choices (with_packages settings named.ids) made.parts
-    made.unresolved_uses made.option_gaps is refuse place first in
+    made.unresolved_uses made.option_gaps made.uncertain_names is refuse place first in
     let there = subst (λ fs. IsLeastGap (asked_in settings parsed) parsed fs place) linked least in
     subst (MayRefuseLinked settings.faulty (asked_in settings parsed) parsed (linked_files parsed) workers)
     (sym is_gap) (least_is_gap refuse there)

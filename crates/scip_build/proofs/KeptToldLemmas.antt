@@ -18,7 +18,7 @@ use Rattle.proto_visibility.specs.declared.fault.LinkFault.{LinkFault}
 use Rattle.proto_visibility.specs.declared.fault.LinkFault.TheVariants as link
 use Rattle.proto_link.specs.Targets.{IsUseFault}
 use Rattle.proto_link.specs.declared.uncertain_use.UncertainUse.{UncertainUse}
-use Rattle.proto_link.specs.Uncertain.{IsFirstUnread, IsUncertain}
+use Rattle.proto_link.specs.Uncertain.{IsFirstUnread}
 use Rattle.proto_visibility.specs.declared.omissions.FileOmission.{FileOmission}
 use Rattle.proto_visibility.specs.declared.omissions.FileOmission.TheVariants as left_for
 use Rattle.proto_visibility.specs.declared.clash.Duplicates.{Duplicates}
@@ -40,17 +40,18 @@ use Rattle.scip_build.specs.declared.omission.Omission.TheVariants.{File, Missin
 use Rattle.scip_build.specs.declared.omission.Omission.TheVariants.{Ambiguous, OptionGap, Uncertain}
 use Rattle.scip_build.specs.Files.{FileContents, ReadFile}
 use Rattle.scip_build.specs.Linking.{linked_file, linked_files, HasFault}
-use Rattle.scip_build.specs.Documents.{asked_if, IsGapAt, IsUnresolvedAt}
+use Rattle.scip_build.specs.Documents.{asked_if, IsGapAt, IsUncertainAt, IsUnresolvedAt}
 use Rattle.scip_build.specs.Kept.{IsLeftFor, place_among_all, IsTold, Key, told_key, key_cmp, told_cmp}
 use Rattle.scip_build.specs.Kept.IsTold.{of_file, of_import, of_use, of_ambiguous, of_uncertain, of_gap}
 use Rattle.scip_build.specs.Keeping.{linked_numbers, as_left_out, linked_of}
 use Rattle.scip_build.specs.Telling.{Adds, FromFront, IsLeftIf, place_by, told_import, told_use, HaveOwnKeys}
-use Rattle.scip_build.specs.Telling.{AreUncertainUses, AreUseFaults, IsFaultAt, number_in, told_gap, told_uncertain}
+use Rattle.scip_build.specs.Telling.{AreUncertain, AreUseFaults, IsFaultAt, number_in, told_gap, told_uncertain}
 use Rattle.scip_build.proofs.ToldUseLemmas.{from_lists, to_lists, unresolved_file, ambiguous_file}
 use Rattle.scip_build.proofs.ToldUseLemmas.{unresolved_there, ambiguous_there}
 use Rattle.scip_build.proofs.LinkingLemmas.{mapped_at}
 use Rattle.scip_build.proofs.KeptTreeLemmas.{number_of}
 use Rattle.scip_build.proofs.KeptUncertainLemmas.{IsLeftBehind, one_behind}
+use Rattle.scip_build.proofs.UncertainNameLemmas.{uncertain_behind, uncertain_source}
 use Rattle.source_tree.proofs.TreeLemmas.{mapped_from}
 use Rattle.scip_model.proofs.OccurrenceOrderLemmas.{both_equal}
 
@@ -158,6 +159,16 @@ module _ (duplicates : Duplicates) (asks : Bool) (all : List ReadFile) (omission
   left_in number (left_for.Duplicate first second) told is left =
       ap (λ (o : Omission). (told_key o).0.0) left ∙ second_in duplicates all omissions are number first second is
 
+  abbrev IsUnsure : UncertainUse → Type 0
+  IsUnsure = IsUncertainAt (asked_if asks (linked_of omissions all)) (linked_of omissions all) linked
+
+  unsure_source : (uncertain : UncertainUse) → IsUnsure uncertain → files.IsSource linked uncertain.place.file
+  unsure_source = uncertain_source (asked_if asks (linked_of omissions all)) (linked_of omissions all) linked
+
+  unsure_behind : (uncertain : UncertainUse) → IsUnsure uncertain
+      → IsFirstUnread linked uncertain.place.file uncertain.behind
+  unsure_behind = uncertain_behind (asked_if asks (linked_of omissions all)) (linked_of omissions all) linked
+
   -- the number of a file that is left out is none of a file that is kept
   not_kept : (number : ℕ) (omission : FileOmission) → slice_get omissions number ≡ Some (Some omission)
       → (k : ℕ) (parsed_file : ReadFile) → slice_get (kept_of omissions all) k ≡ Some parsed_file
@@ -223,7 +234,7 @@ module _ (duplicates : Duplicates) (asks : Bool) (all : List ReadFile) (omission
       let there = use_at q is.0 in
       absurd (not_kept n o at q.file there.0 there.1 (sym (left_of n o a at left) ∙ same.file))
   one_told a _ (of_file n o at left) (of_uncertain v m more is numbered out) same =
-      let there = use_at v.place is.source in
+      let there = use_at v.place (unsure_source v is) in
       absurd (not_kept n o at v.place.file there.0 there.1 (sym (left_of n o a at left) ∙ same.file))
   one_told a _ (of_file n o at left) (of_gap q is) same =
       let there = use_at q is.source in
@@ -260,7 +271,7 @@ module _ (duplicates : Duplicates) (asks : Bool) (all : List ReadFile) (omission
       absurd (omega (arith, same.what))
   one_told _ _ (of_ambiguous p is) (of_gap q also) same = absurd (omega (arith, same.what))
   one_told _ b (of_uncertain u n less is numbered out) (of_file m o and right) same =
-      let there = use_at u.place is.source in
+      let there = use_at u.place (unsure_source u is) in
       absurd (not_kept m o and u.place.file there.0 there.1 (sym (left_of m o b and right) ∙ sym same.file))
   one_told _ _ (of_uncertain u n less is numbered out) (of_import q missing) same = absurd (omega (arith, same.what))
   one_told _ _ (of_uncertain u n less is numbered out) (of_use q also) same = absurd (omega (arith, same.what))
@@ -269,8 +280,9 @@ module _ (duplicates : Duplicates) (asks : Bool) (all : List ReadFile) (omission
       let place = one_place (place_among_all omissions u.place) (place_among_all omissions v.place) same.file same.start
       same.end in
       let file : u.place.file ≡ v.place.file = one_number omissions u.place.file v.place.file same.file in
-      let first = subst (λ k. IsFirstUnread linked k u.behind) file is.behind in
-      let behind_same : u.behind ≡ v.behind = one_behind linked v.place.file u.behind v.behind first also.behind in
+      let first = subst (λ k. IsFirstUnread linked k u.behind) file (unsure_behind u is) in
+      let behind_same : u.behind ≡ v.behind =
+      one_behind linked v.place.file u.behind v.behind first (unsure_behind v also) in
       let number : n ≡ m =
       same_Some n m (sym numbered ∙ (ap (slice_get (linked_numbers omissions)) behind_same ∙ too)) in
       λ i. Uncertain (place i) (number i)
@@ -305,10 +317,12 @@ module _ (duplicates : Duplicates) (asks : Bool) (all : List ReadFile) (omission
       (missing_are : AreMissing linked missing)
       (unresolved_are : (place : FilePlace) → Contains unresolved_uses place ↔ IsUnresolvedAt linked place)
       (faults_are : AreUseFaults linked unresolved_uses faults)
-      (uncertain_are : AreUncertainUses linked uncertain)
+      (uncertain_are : AreUncertain (asked_if asks (linked_of omissions all)) (linked_of omissions all) linked
+      uncertain)
       (gaps_are : (place : FilePlace) → Contains option_gaps place
       ↔ IsGapAt (asked_if asks (linked_of omissions all)) (linked_of omissions all) linked place)
-      (left_behind : (u : UncertainUse) → IsUncertain linked u → IsLeftBehind omissions u.behind) where
+      (left_behind : (source behind : ℕ) → files.IsSource linked source → IsFirstUnread linked source behind
+      → IsLeftBehind omissions behind) where
     abbrev imports : List Omission
     imports = map (told_import (linked_numbers omissions)) missing
 
@@ -372,12 +386,12 @@ module _ (duplicates : Duplicates) (asks : Bool) (all : List ReadFile) (omission
           told_by of.0 fault ((faults_are of.0).0 of.1) of.2)
     ]
 
-    -- what is told of an uncertain use
-    uncertain_is : (u : UncertainUse) (number : ℕ) → IsUncertain linked u
+    -- what is told of an uncertain use or name
+    uncertain_is : (u : UncertainUse) (number : ℕ) → IsUnsure u
         → slice_get (linked_numbers omissions) u.behind ≡ Some number
         → told_uncertain (linked_numbers omissions) u ≡ Uncertain (place_among_all omissions u.place) number
     uncertain_is u number is numbered =
-        let at = use_at u.place is.source in
+        let at = use_at u.place (unsure_source u is) in
         let place = moved u.place at.0 at.1 in
         let behind_is : number_in (linked_numbers omissions) u.behind ≡ number =
         ap (λ (o : Option ℕ). unwrap_or o u.behind) numbered in
@@ -389,7 +403,7 @@ module _ (duplicates : Duplicates) (asks : Bool) (all : List ReadFile) (omission
       | inr last ↦ (
           let of = mapped_from (told_uncertain (linked_numbers omissions)) uncertain fault last in
           let is = (uncertain_are of.0).0 of.1 in
-          let out = left_behind of.0 is in
+          let out = left_behind of.0.place.file of.0.behind (unsure_source of.0 is) (unsure_behind of.0 is) in
           subst (IsTold asks all omissions) (sym (uncertain_is of.0 out.number is out.numbered) ∙ of.2)
           (of_uncertain of.0 out.number out.omission is out.numbered out.left_out))
     ]

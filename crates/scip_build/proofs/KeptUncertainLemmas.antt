@@ -1,17 +1,16 @@
--- Uses of kept files that may name another type once a file that is left out can be read.
+-- Uses of kept files, and names in their options, that may name another thing once a file that is left out can be read.
 use Rattle.std.proofs.Common.{◌≡◌, ◌∙◌, inl, inr, ℕ, ◌-◌, List, length, map, Some, ap, sym}
 use Rattle.std.specs.List.{slice_get}
 use Rattle.std.proofs.lemmas.Bool.{cases_lt, cases_order}
 use Rattle.proto_visibility.specs.declared.omissions.FileOmission.{FileOmission}
-use Rattle.proto_visibility.specs.Files.{File}
+use Rattle.proto_visibility.specs.Files.{File, IsSource}
 use Rattle.proto_visibility.specs.Reaches.Reaches.{sees}
 use Rattle.proto_visibility.specs.Reaches.IsReachable.{reached}
 use Rattle.proto_visibility.specs.Absences.{NoneBroken}
 use Rattle.proto_visibility.specs.Kept.{Omissions, kept_of, left_of, number_among_all}
 use Rattle.proto_visibility.proofs.KeptAmongLemmas.{at_all, behind, from_mapped, is_left, left_among_all}
 use Rattle.proto_visibility.proofs.SeeingLemmas.{slice_get_prefix}
-use Rattle.proto_link.specs.declared.uncertain_use.UncertainUse.{UncertainUse}
-use Rattle.proto_link.specs.Uncertain.{IsFirstUnread, IsUncertain}
+use Rattle.proto_link.specs.Uncertain.{IsFirstUnread}
 use Rattle.scip_build.specs.Files.{ReadFile}
 use Rattle.scip_build.specs.Linking.{linked_file, linked_files}
 use Rattle.scip_build.specs.Ready.{ArePresent}
@@ -38,13 +37,13 @@ pub record IsLeftBehind (omissions : Omissions) (linked : ℕ) : Type 0 where
 
 -- A file without facts that a source sees is left out: among those that are kept it would be a broken one.
 pub behind_left : (all : List ReadFile) (omissions : Omissions) → length omissions ≡ length all → ArePresent all
-    → NoneBroken (linked_files (linked_of omissions all)) → (uncertain : UncertainUse)
-    → IsUncertain (linked_files (linked_of omissions all)) uncertain → IsLeftBehind omissions uncertain.behind
-behind_left all omissions size present read uncertain is =
-    let number = uncertain.behind in
+    → NoneBroken (linked_files (linked_of omissions all)) → (source number : ℕ)
+    → IsSource (linked_files (linked_of omissions all)) source
+    → IsFirstUnread (linked_files (linked_of omissions all)) source number → IsLeftBehind omissions number
+behind_left all omissions size present read source number is_source is =
     let kept = kept_of omissions all in
     let left = map as_left_out (left_of omissions all) in
-    let first = is.behind.unread in
+    let first = is.unread in
     let of = mapped_at linked_file (linked_of omissions all) number first.file first.numbered in
     elim (cases_lt number (length kept)) [
       | inl front ↦ (
@@ -52,7 +51,7 @@ behind_left all omissions size present read uncertain is =
           let here = present (number_among_all omissions number) of.0 (at_all omissions all number of.0 at) in
           absurd (read number (record {
             file = first.file;
-            counts = reached is.source (sees is.behind.sees) (record {
+            counts = reached is_source (sees is.sees) (record {
               file = first.file;
               numbered = first.numbered;
               present = ap (λ (f : File). f.is_left_out) of.2 ∙ here;

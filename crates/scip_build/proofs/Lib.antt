@@ -23,6 +23,8 @@ mod KeptToldLemmas
 pub mod KeptTreeLemmas
 -- Uses of kept files that may name another type once a file that is left out can be read
 mod KeptUncertainLemmas
+-- Names in options that may then name another field
+pub mod UncertainNameLemmas
 -- A use of a kept file names, as files are linked, what it names in the whole tree
 mod KeptUseLemmas
 -- A use that isn't told as uncertain names the same, however files are mended

@@ -9,14 +9,13 @@ use Rattle.proto_lex.specs.declared.span.Span.{Span}
 use Rattle.proto_decl.specs.Facts.{Facts}
 use Rattle.proto_decl.specs.declared.uses.Use.{Use}
 use Rattle.proto_link.specs.Targets.{IsUnresolved}
-use Rattle.proto_visibility.specs.declared.files.FilePlace.{FilePlace}
 use Rattle.proto_visibility.specs.Files.{File, HasFacts, IsSource}
 use Rattle.proto_visibility.proofs.FileFactLemmas.{one_list_of_facts}
 use Rattle.scip_model.specs.Conditions.{IsResolved, ListsUnresolved, AreUnresolvedUses}
 use Rattle.scip_model.specs.Conditions.ListsUnresolved.{at_end, has, lacks}
 use Rattle.scip_build.specs.declared.made.MadeDocument.{MadeDocument}
 use Rattle.scip_build.specs.Documents.{IsUnresolvedAt}
-use Rattle.scip_build.specs.Made.{place_in, places_from}
+use Rattle.scip_build.specs.Made.{place_in, told_from}
 use Rattle.basics.proofs.StrictOrderLemmas.{in_either}
 use Rattle.source_tree.proofs.TreeLemmas.{mapped_from}
 
@@ -119,65 +118,69 @@ module _ (files : List File) (source : ℕ) (spans : List Span)
 
 -- ---- of all
 
--- the place is that of a span of the source with this number
-pub record IsPlaceOf {Out : Type 0} (spans_of : MadeDocument Out → List Span) (made : List (MadeDocument Out))
-    (first : ℕ) (place : FilePlace) : Type 0 where
+-- it is told of one of these, in the source with this number
+pub record IsToldOf {Out X Y : Type 0} (told_in : ℕ → X → Y) (told_of : MadeDocument Out → List X)
+    (made : List (MadeDocument Out)) (first : ℕ) (told : Y) : Type 0 where
   pub number : ℕ
   pub document : MadeDocument Out
   pub numbered : slice_get made number ≡ Some document
-  pub file : place.file ≡ first + number
-  pub listed : Contains (spans_of document) place.span
+  pub item : X
+  pub listed : Contains (told_of document) item
+  pub is : told_in (first + number) item ≡ told
 
-module _ {Out : Type 0} (spans_of : MadeDocument Out → List Span) where
-  pub place_at : (first : ℕ) (made : List (MadeDocument Out)) (place : FilePlace)
-      → Contains (places_from spans_of first made) place
-      → IsPlaceOf spans_of made first place
-  place_at first [] place there = absurd (in_nothing place there)
-  place_at first (m ∷ ms) place there =
-      elim (Contains-append_cases (map (place_in first) (spans_of m)) (places_from spans_of (first + 1) ms) place
+module _ {Out X Y : Type 0} (told_in : ℕ → X → Y) (told_of : MadeDocument Out → List X) where
+  pub told_at : (first : ℕ) (made : List (MadeDocument Out)) (told : Y)
+      → Contains (told_from told_in told_of first made) told → IsToldOf told_in told_of made first told
+  told_at first [] told there = absurd (in_nothing told there)
+  told_at first (m ∷ ms) told there =
+      elim (Contains-append_cases (map (told_in first) (told_of m)) (told_from told_in told_of (first + 1) ms) told
       there) [
         | inl here ↦ (
-            let of = mapped_from (place_in first) (spans_of m) place here in
+            let of = mapped_from (told_in first) (told_of m) told here in
+            let zeroth : first + 0 ≡ first = omega arith in
             record {
               number = zero;
               document = m;
               numbered = refl;
-              file = sym (ap (λ (p : FilePlace). p.file) of.2) ∙ omega arith;
-              listed = subst (Contains (spans_of m)) (ap (λ (p : FilePlace). p.span) of.2) of.1;
+              item = of.0;
+              listed = of.1;
+              is = ap (λ (n : ℕ). told_in n of.0) zeroth ∙ of.2;
             })
         | inr more ↦ (
-            let of = place_at (first + 1) ms place more in
+            let of = told_at (first + 1) ms told more in
+            let next : first + suc of.number ≡ first + 1 + of.number = omega arith in
             record {
               number = suc of.number;
               document = of.document;
               numbered = of.numbered;
-              file = let e = of.file in omega (arith, e);
+              item = of.item;
               listed = of.listed;
+              is = ap (λ (n : ℕ). told_in n of.item) next ∙ of.is;
             })
       ]
 
   pub listed_from : (first : ℕ) (made : List (MadeDocument Out)) (number : ℕ) (document : MadeDocument Out)
-      → slice_get made number ≡ Some document → (span : Span) → Contains (spans_of document) span
-      → Contains (places_from spans_of first made) (place_in (first + number) span)
-  listed_from first [] number document at span there = absurd (none-some document at)
-  listed_from first (m ∷ ms) zero document at span there =
-      let here : Contains (spans_of m) span =
-      subst (λ (d : MadeDocument Out). Contains (spans_of d) span) (sym (same_Some m document at)) there in
+      → slice_get made number ≡ Some document → (item : X) → Contains (told_of document) item
+      → Contains (told_from told_in told_of first made) (told_in (first + number) item)
+  listed_from first [] number document at item there = absurd (none-some document at)
+  listed_from first (m ∷ ms) zero document at item there =
+      let here : Contains (told_of m) item =
+      subst (λ (d : MadeDocument Out). Contains (told_of d) item) (sym (same_Some m document at)) there in
       let zeroth : first ≡ first + 0 = omega arith in
-      subst (λ (n : ℕ). Contains (places_from spans_of first (m ∷ ms)) (place_in n span)) zeroth
-      (Contains-append_left (map (place_in first) (spans_of m)) (places_from spans_of (first + 1) ms)
-      (place_in first span)
-      (contains_map (place_in first) (spans_of m) span here))
-  listed_from first (m ∷ ms) (suc number) document at span there =
+      subst (λ (n : ℕ). Contains (told_from told_in told_of first (m ∷ ms)) (told_in n item)) zeroth
+      (Contains-append_left (map (told_in first) (told_of m)) (told_from told_in told_of (first + 1) ms)
+      (told_in first item)
+      (contains_map (told_in first) (told_of m) item here))
+  listed_from first (m ∷ ms) (suc number) document at item there =
       let next : first + 1 + number ≡ first + suc number = omega arith in
-      subst (λ (n : ℕ). Contains (places_from spans_of first (m ∷ ms)) (place_in n span)) next
-      (Contains-append_right (map (place_in first) (spans_of m)) (places_from spans_of (first + 1) ms)
-      (place_in (first + 1 + number) span)
-      (listed_from (first + 1) ms number document at span there))
+      subst (λ (n : ℕ). Contains (told_from told_in told_of first (m ∷ ms)) (told_in n item)) next
+      (Contains-append_right (map (told_in first) (told_of m)) (told_from told_in told_of (first + 1) ms)
+      (told_in (first + 1 + number) item)
+      (listed_from (first + 1) ms number document at item there))
 
   pub none_from : (first : ℕ) (made : List (MadeDocument Out))
       → ((number : ℕ) (document : MadeDocument Out) → slice_get made number ≡ Some document
-      → spans_of document ≡ []) → places_from spans_of first made ≡ []
+      → told_of document ≡ []) → told_from told_in told_of first made ≡ []
   none_from first [] none = refl
   none_from first (m ∷ ms) none =
       rw (none zero m refl) (none_from (first + 1) ms (λ number document at. none (suc number) document at))

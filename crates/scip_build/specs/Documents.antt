@@ -9,6 +9,8 @@ use Rattle.std.specs.Option.{unwrap_or}
 use Rattle.proto_decl.specs.Facts.{Facts}
 use Rattle.proto_decl.specs.declared.uses.Use.{Use}
 use Rattle.proto_link.specs.Targets.{IsUnresolved, IsUseFault}
+use Rattle.proto_link.specs.Uncertain.{IsUncertain}
+use Rattle.proto_link.specs.declared.uncertain_use.UncertainUse.{UncertainUse}
 use Rattle.proto_visibility.specs.declared.fault.LinkFault.{LinkFault}
 use Rattle.proto_visibility.specs.declared.fault.LinkFault.TheVariants as link
 use Rattle.proto_visibility.specs.declared.files.FilePlace.{FilePlace}
@@ -18,7 +20,7 @@ use Rattle.scip_model.specs.Chosen.{Chosen, HaveChoices}
 use Rattle.scip_model.specs.Conditions.{HaveGoodPaths, IsResolved, AllResolve, IsFirstUnresolved, UsesResolve, HasText}
 use Rattle.scip_model.specs.Indexes.{IsAscendingListOf, IsDocumentWith, document_cmp, HasDocumentWith}
 use Rattle.scip_model.specs.Indexes.{HaveDocumentsWith}
-use Rattle.scip_model.specs.Options.{AreOptionGapsIf, HasGapIf}
+use Rattle.scip_model.specs.Options.{AreOptionGapsIf, AreUncertainNamesIf, HasGapIf, HasUncertainIf}
 use Rattle.scip_build.specs.declared.settings.Settings.{Settings}
 use Rattle.scip_model.specs.Conditions.{AreUnresolvedUses}
 use Rattle.scip_model.specs.declared.source_document.PlannedWithOptions.{PlannedWithOptions}
@@ -97,8 +99,8 @@ pub record SourceWork : Type 0 where
   pub settings : Settings
   pub count : ℕ
 
--- The document of the source with this number, its uses that name no type, and the gaps of its options, if names in
--- options are linked. There are no such uses if they are refused.
+-- The document of the source with this number, its uses that name no type, and the gaps and the uncertain names of its
+-- options, if names in options are linked. There are no such uses if they are refused.
 pub record IsDocumentAt (parsed : List ReadFile) (files : List File) (chosen : Chosen) (settings : Settings)
     (number : ℕ) (made : PlannedWithOptions) : Type 0 where
   pub text : List ℕ
@@ -107,6 +109,7 @@ pub record IsDocumentAt (parsed : List ReadFile) (files : List File) (chosen : C
       made.planned.document
   pub unresolved_uses : AreUnresolvedUses files number made.planned.unresolved
   pub option_gaps : AreOptionGapsIf (asked_in settings parsed) files number text made.option_gaps
+  pub uncertain_names : AreUncertainNamesIf (asked_in settings parsed) files number text made.uncertain_names
   pub refused : settings.faulty ≡ Refuse → made.planned.unresolved ≡ []
 
 -- why a source has no document: its first use that names no type, if such are refused; nothing is said about memory
@@ -158,17 +161,34 @@ pub record IsGapAt (asked : Option (List OptionFacts)) (parsed : List ReadFile) 
   pub has_text : HasReadText parsed place.file text
   pub gap : HasGapIf asked files place.file text place.span
 
+-- where names in options are linked: the uncertain name of an option of a source is at this place, behind this file
+pub record IsUncertainNameAt (asked : Option (List OptionFacts)) (parsed : List ReadFile) (files : List File)
+    (name : UncertainUse) : Type 0 where
+  pub source : IsSource files name.place.file
+  pub text : List ℕ
+  pub has_text : HasReadText parsed name.place.file text
+  pub uncertain : HasUncertainIf asked files name.place.file text
+      (record { span = name.place.span; behind = name.behind })
+
+-- a use of a source is uncertain, or a name in an option of one
+abbrev pub IsUncertainAt : (asked : Option (List OptionFacts)) → List ReadFile → List File → UncertainUse → Type 0
+IsUncertainAt asked parsed files uncertain =
+    IsUncertain files uncertain ⊎ IsUncertainNameAt asked parsed files uncertain
+
 -- no option of a source has a gap
 abbrev pub HaveNoGaps : (asked : Option (List OptionFacts)) → List ReadFile → List File → Type 0
 HaveNoGaps asked parsed files = (place : FilePlace) → IsGapAt asked parsed files place → ⊥
 
--- The documents of all sources, one of each, by path, all uses of the sources that name no type, and all gaps of their
--- options, if names in options are linked. There are no such uses if they are refused.
+-- The documents of all sources, one of each, by path, all uses of the sources that name no type, and all gaps and
+-- uncertain names of their options, if names in options are linked. There are no such uses if they are refused.
 pub record AreDocuments (parsed : List ReadFile) (files : List File) (chosen : Chosen) (settings : Settings)
-    (documents : List Document) (unresolved_uses option_gaps : List FilePlace) : Type 0 where
+    (documents : List Document) (unresolved_uses option_gaps : List FilePlace) (uncertain_names : List UncertainUse)
+    : Type 0 where
   pub decided : AllAreDecided files
   pub unresolved : (place : FilePlace) → Contains unresolved_uses place ↔ IsUnresolvedAt files place
   pub gaps : (place : FilePlace) → Contains option_gaps place ↔ IsGapAt (asked_in settings parsed) parsed files place
+  pub names : (name : UncertainUse) → Contains uncertain_names name
+      ↔ IsUncertainNameAt (asked_in settings parsed) parsed files name
   pub refused : settings.faulty ≡ Refuse → AllResolve files × (unresolved_uses ≡ [])
   pub list : IsAscendingListOf document_cmp (HasDocumentWith (asked_in settings parsed) files (texts_of parsed) chosen
       settings.package settings.encoding) documents

@@ -3,6 +3,7 @@ use Rattle.std.specs.Prelude.{◌≡◌, ℕ, List, [], map, Result, MatchResult
 use Rattle.std.specs.List.{AllZip}
 use Rattle.proto_decl.specs.Values.{Seen}
 use Rattle.proto_visibility.specs.declared.files.FilePlace.{FilePlace}
+use Rattle.proto_link.specs.declared.uncertain_use.UncertainUse.{UncertainUse}
 use Rattle.proto_visibility.specs.Files.{File}
 use Rattle.proto_visibility.specs.Linked.{HaveClearNames, CanBeLinked}
 use Rattle.index_hooks.specs.declared.choice.Choice.{Choice}
@@ -24,7 +25,7 @@ use Rattle.scip_build.specs.declared.omission.Omission.{Omission}
 use Rattle.scip_build.specs.Files.{ReadFile}
 use Rattle.scip_build.specs.Documents.{IsDocumentAt, MayRefuseSource, AreDocuments}
 use Rattle.scip_build.specs.Linking.{linked_files, choices_of}
-use Rattle.scip_build.specs.Made.{gaps_from, unresolved_from}
+use Rattle.scip_build.specs.Made.{gaps_from, names_from, unresolved_from}
 use Rattle.scip_build.specs.Making.{IsMade}
 use Rattle.scip_build.specs.Builds.{IsBuiltOf, IsBuilt}
 
@@ -44,6 +45,7 @@ module _ {Out : Type 0} (Is : Document → Out → Type 0) where
     pub kept : Is document.planned.document out.kept
     pub unresolved_uses : out.unresolved ≡ document.planned.unresolved
     pub option_gaps : out.option_gaps ≡ document.option_gaps
+    pub uncertain_names : out.uncertain_names ≡ document.uncertain_names
 
   abbrev pub GivesKept : List ReadFile → List File → Chosen → Settings → (number : ℕ)
       → Result (MadeDocument Out) NoDocument → Type 0
@@ -51,18 +53,21 @@ module _ {Out : Type 0} (Is : Document → Out → Type 0) where
       MatchResult result (IsKeptAt parsed files chosen settings number)
       (MayRefuseSource settings.faulty files number)
 
-  -- what is kept of the documents of all sources, in order, all uses that name no type, and all gaps of options
+  -- what is kept of the documents of all sources, in order, all uses that name no type, and all gaps and uncertain
+  -- names of options
   pub record AreMade (parsed : List ReadFile) (files : List File) (chosen : Chosen) (settings : Settings)
       (outs : List (MadeDocument Out)) : Type 0 where
     pub documents : List Document
     pub made : AreDocuments parsed files chosen settings documents (unresolved_from 0 outs) (gaps_from 0 outs)
+        (names_from 0 outs)
     pub kept : AllZip Is documents (map (λ (out : MadeDocument Out). out.kept) outs)
 
   -- there is an index, as linked files make it, and these are its parts
   pub record IsMadeInForm (parsed : List ReadFile) (files : List File) (chosen : Chosen) (settings : Settings)
-      (parts : Parts Out) (unresolved_uses option_gaps : List FilePlace) : Type 0 where
+      (parts : Parts Out) (unresolved_uses option_gaps : List FilePlace) (uncertain_names : List UncertainUse)
+      : Type 0 where
     pub index : Index
-    pub made : IsMade parsed files chosen settings index unresolved_uses option_gaps
+    pub made : IsMade parsed files chosen settings index unresolved_uses option_gaps uncertain_names
     pub are : ArePartsOf index parts
 
   -- it is made by the choices for the files that were read, and no option has a gap if such are refused
@@ -72,7 +77,7 @@ module _ {Out : Type 0} (Is : Document → Out → Type 0) where
     pub repeated : RepeatedNames
     pub are_repeated : AreRepeated (linked_files parsed) repeated
     pub in_form : IsMadeInForm parsed (linked_files parsed) made.choices (repeating settings repeated) made.parts
-        made.unresolved_uses made.option_gaps
+        made.unresolved_uses made.option_gaps made.uncertain_names
     pub filled : settings.faulty ≡ Refuse → made.option_gaps ≡ []
 
   -- the files can be linked, too

@@ -18,11 +18,10 @@ use Rattle.scip_build.specs.declared.omission.Omission.TheVariants.{File, Duplic
 use Rattle.scip_build.specs.declared.omission.Omission.TheVariants.{Ambiguous, OptionGap, Uncertain}
 use Rattle.scip_build.specs.Files.{ReadFile}
 use Rattle.proto_link.specs.declared.uncertain_use.UncertainUse.{UncertainUse}
-use Rattle.proto_link.specs.Uncertain.{IsUncertain}
 use Rattle.scip_build.specs.Keeping.{linked_numbers, linked_of}
 use Rattle.scip_build.specs.Linking.{linked_files, HasFault}
 use Rattle.proto_visibility.specs.declared.fault.LinkFault.TheVariants as link
-use Rattle.scip_build.specs.Documents.{asked_if, AllAreDecided, HaveNoGaps, IsGapAt, IsToldUse}
+use Rattle.scip_build.specs.Documents.{asked_if, AllAreDecided, HaveNoGaps, IsGapAt, IsToldUse, IsUncertainAt}
 
 -- Why the file with this number is left out, as it is told: it can't be read, or one of its names clashes with another
 -- of its own, or with one of a file kept before it.
@@ -50,9 +49,11 @@ pub data IsTold (asks : Bool) (all : List ReadFile) (omissions : Omissions) : Om
   -- such a use is ambiguous.
   of_ambiguous : (place : FilePlace) → IsToldUse (linked_files (linked_of omissions all)) place (link.Ambiguous place)
       → IsTold asks all omissions (Ambiguous (place_among_all omissions place))
-  -- A use of a source that is kept names a type, but may name another one once a file that is left out can be read.
+  -- A use of a source that is kept names a type, or a name in an option of one a field, but may name another one once a
+  -- file that is left out can be read.
   of_uncertain : (uncertain : UncertainUse) (number : ℕ) (omission : FileOmission)
-      → IsUncertain (linked_files (linked_of omissions all)) uncertain
+      → IsUncertainAt (asked_if asks (linked_of omissions all)) (linked_of omissions all)
+      (linked_files (linked_of omissions all)) uncertain
       → slice_get (linked_numbers omissions) uncertain.behind ≡ Some number
       → slice_get omissions number ≡ Some (Some omission)
       → IsTold asks all omissions (Uncertain (place_among_all omissions uncertain.place) number)

@@ -8,6 +8,7 @@ use Rattle.scip_model.specs.Chosen.{Chosen}
 use Rattle.scip_model.specs.Conditions.{AllResolve}
 use Rattle.scip_model.specs.Indexes.{IsIndexWith}
 use Rattle.proto_visibility.specs.declared.files.FilePlace.{FilePlace}
+use Rattle.proto_link.specs.declared.uncertain_use.UncertainUse.{UncertainUse}
 use Rattle.scip_build.specs.declared.settings.Settings.{Settings}
 use Rattle.scip_build.specs.declared.faulty.Faulty.TheVariants.{Refuse}
 use Rattle.scip_build.specs.declared.fault.BuildFault.{BuildFault}
@@ -15,15 +16,18 @@ use Rattle.scip_build.specs.declared.fault.BuildFault.TheVariants as build
 use Rattle.scip_build.specs.Files.{ReadFile}
 use Rattle.scip_build.specs.Linking.{linked_files, MayRefuseParsed}
 use Rattle.scip_build.specs.Documents.{texts_of, asked_if, asked_in, AllAreDecided, IsAmbiguousAt, IsUnresolvedAt}
-use Rattle.scip_build.specs.Documents.{IsGapAt, IsLeastGap, IsLeastUnresolved}
+use Rattle.scip_build.specs.Documents.{IsGapAt, IsLeastGap, IsLeastUnresolved, IsUncertainNameAt}
 
 -- The index is that of the files, these are the uses of sources that name no type, none if such are refused, and these
--- the gaps of their options.
+-- the gaps of their options, and the uncertain names in these.
 pub record IsMade (parsed : List ReadFile) (files : List File) (chosen : Chosen) (settings : Settings)
-    (index : Index) (unresolved_uses option_gaps : List FilePlace) : Type 0 where
+    (index : Index) (unresolved_uses option_gaps : List FilePlace) (uncertain_names : List UncertainUse)
+    : Type 0 where
   pub decided : AllAreDecided files
   pub unresolved : (place : FilePlace) → Contains unresolved_uses place ↔ IsUnresolvedAt files place
   pub gaps : (place : FilePlace) → Contains option_gaps place ↔ IsGapAt (asked_in settings parsed) parsed files place
+  pub names : (name : UncertainUse) → Contains uncertain_names name
+      ↔ IsUncertainNameAt (asked_in settings parsed) parsed files name
   pub refused : settings.faulty ≡ Refuse → AllResolve files × (unresolved_uses ≡ [])
   pub is : IsIndexWith (asked_in settings parsed) files (texts_of parsed) chosen settings.package settings.encoding
       settings.project_root index

@@ -13,11 +13,12 @@ use Rattle.proto_visibility.specs.declared.clash.Duplicates.{Duplicates}
 use Rattle.proto_visibility.specs.Files.{File}
 use Rattle.proto_link.specs.Targets.{IsUseFault}
 use Rattle.proto_link.specs.declared.uncertain_use.UncertainUse.{UncertainUse}
-use Rattle.proto_link.specs.Uncertain.{IsUncertain}
 use Rattle.proto_visibility.specs.Kept.{Omissions, IsOmission, AreOmissions}
 use Rattle.scip_build.specs.declared.omission.Omission.{Omission}
 use Rattle.scip_build.specs.declared.omission.Omission.TheVariants.{MissingImport, Unresolved, Ambiguous}
 use Rattle.scip_build.specs.declared.omission.Omission.TheVariants.{OptionGap, Uncertain}
+use Rattle.option_link.specs.declared.facts.OptionFacts.{OptionFacts}
+use Rattle.scip_build.specs.Documents.{IsUncertainAt}
 use Rattle.scip_build.specs.Files.{ReadFile}
 use Rattle.scip_build.specs.Linking.{linked_files}
 use Rattle.scip_build.specs.Kept.{IsLeftFor, told_cmp}
@@ -68,7 +69,7 @@ told_use numbers (link.Duplicate first second) = []
 told_use numbers (link.MissingImport place) = []
 told_use numbers link.Memory = []
 
--- what is told of a use that names a type, but may name another one
+-- what is told of a use, or of a name in an option, that may name another thing
 abbrev pub told_uncertain : List ℕ → UncertainUse → Omission
 told_uncertain numbers uncertain =
     Uncertain (place_by numbers uncertain.place) (number_in numbers uncertain.behind)
@@ -77,9 +78,10 @@ told_uncertain numbers uncertain =
 abbrev pub told_gap : List ℕ → FilePlace → Omission
 told_gap numbers place = OptionGap (place_by numbers place)
 
--- these are the uses of files that may name another type
-abbrev pub AreUncertainUses : List File → List UncertainUse → Type 0
-AreUncertainUses files uses = (uncertain : UncertainUse) → Contains uses uncertain ↔ IsUncertain files uncertain
+-- these are the uses of files, and the names in their options, that may name another thing
+abbrev pub AreUncertain : (asked : Option (List OptionFacts)) → List ReadFile → List File → List UncertainUse → Type 0
+AreUncertain asked parsed files all =
+    (uncertain : UncertainUse) → Contains all uncertain ↔ IsUncertainAt asked parsed files uncertain
 
 -- a file in which one of these places is has a use that names nothing for this
 pub record IsFaultAt (files : List File) (places : List FilePlace) (fault : LinkFault) : Type 0 where

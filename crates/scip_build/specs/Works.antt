@@ -11,6 +11,7 @@ use Rattle.scip_model.specs.Conditions.{HaveGoodPaths, HasText}
 use Rattle.scip_model.specs.Options.{AllLinkOptions}
 use Rattle.scip_model.specs.declared.source_document.PlannedWithOptions.{PlannedWithOptions}
 use Rattle.proto_visibility.specs.declared.files.FilePlace.{FilePlace}
+use Rattle.proto_link.specs.declared.uncertain_use.UncertainUse.{UncertainUse}
 use Rattle.scip_build.specs.Documents.{AreReady, GivesDocument, HasReadText, IsRead, MayRefuseDocuments, SourceWork}
 use Rattle.scip_build.specs.Documents.{asked_in}
 use Rattle.scip_build.specs.Forms.{AreMade, IsMadeInForm}
@@ -79,7 +80,7 @@ module _ (sources : LinkedSources) where
         AreMade (kept_at sources.settings.now.at Is) sources.parsed.now sources.package.now.files sources.choices.now
         (with_packages sources.settings.now sources.package.now.ids)
 
-    abbrev pub IsMadeFrom : Parts Out → List FilePlace → List FilePlace → Type 0
+    abbrev pub IsMadeFrom : Parts Out → List FilePlace → List FilePlace → List UncertainUse → Type 0
     IsMadeFrom =
         IsMadeInForm (kept_at sources.settings.now.at Is) sources.parsed.now sources.package.now.files
         sources.choices.now

@@ -11,7 +11,7 @@ ghost use Rattle.scip_build.specs.declared.faulty.Faulty.TheVariants.{Refuse, Sk
 ghost use Rattle.scip_build.specs.Linking.{linked_files};
 ghost use Rattle.scip_build.specs.Documents as spec;
 ghost use Rattle.scip_build.specs.Documents.{asked_in, asks_in, known_in, MayRefuseLinked};
-ghost use Rattle.scip_build.specs.Telling.{AreUncertainUses, AreUseFaults};
+ghost use Rattle.scip_build.specs.Telling.{AreUncertain, AreUseFaults};
 ghost use Rattle.scip_build.specs.Ready.{AreOfTree, ArePresent};
 ghost use Rattle.scip_build.specs.Making.{MayRefuseMaking, MayRefuseSkipping};
 ghost use Rattle.scip_build.specs.Placing.{kept_at};
@@ -29,7 +29,7 @@ use crate::keeping::{keep_files, sources_among};
 use crate::linked_options::{files_beside, texts_of};
 use crate::linked_sources::LinkedSources;
 use crate::linking::{link, linked_files};
-use crate::made::{KeptParts, Made};
+use crate::made::{KeptParts, Made, MadeParts};
 use crate::option_gaps::without_gaps;
 use crate::option_reading::asks_options;
 use crate::parsed_file::ParsedFile;
@@ -40,7 +40,9 @@ use crate::read_form::ReadForm;
 use crate::run::Run;
 use crate::settings::Settings;
 use crate::telling::tell;
-use crate::unresolved_uses::{documents_of, option_gaps_of, unresolved_of};
+use crate::unresolved_uses::{
+    add_names, documents_of, option_gaps_of, uncertain_names_of, unresolved_of,
+};
 use crate::use_faults::{faults_at, refusal_by};
 use basics::tool::{NAME, VERSION};
 use basics::{OwnedText, Sequence};
@@ -48,7 +50,7 @@ use index_hooks::Chooses;
 use index_pool::Gate;
 use option_link::{FilesBeside, OptionLinker};
 use proto_decl::FactForm;
-use proto_link::{FilePlace, Linker, kept_files_are_clear};
+use proto_link::{Linker, kept_files_are_clear};
 use proto_options::fields_stand_in_order;
 use scip_model::{Choices, SymbolPackages, externals_in_packages, externals_with_options};
 use scip_records::{Document, Index, Metadata, SymbolInformation, ToolInfo};
@@ -119,24 +121,26 @@ fn options_if_asked<'n, 'a, 't>(
     Ok(Some(options))
 }
 
-/// The parts of the index of linked files, the uses that name no type, and the gaps of options: the documents come by
-/// path, so none is looked for.
+/// The parts of the index of linked files, the uses that name no type, and the gaps and uncertain names of options: the
+/// documents come by path, so none is looked for.
 #[tactic(auto, using(crate::proofs::LinkingRefusalRules::of_documents))]
 fn make_parts<R: Threads + Wait, G: Gate, F: DocumentForm + Sync>(
     run: &Run<'_, R, G>,
     sources: &LinkedSources<'_, '_, '_, '_>,
     form: &F,
-) -> Result<(Parts<F::Kept>, Sequence<FilePlace>, Sequence<FilePlace>), BuildFault>
+) -> Result<MadeParts<F::Kept>, BuildFault>
     requires few { sources.now.count ≤ MAX_INPUTS }
     requires ready { IsReady sources.now }
     requires options { HasOptions sources.now }
     ensures { MatchResult result
-        (λ made. IsMadeFrom sources.now F.is_kept made.0 made.1 made.2)
+        (λ made. IsMadeFrom sources.now F.is_kept made.parts made.unresolved_uses made.option_gaps
+        made.uncertain_names)
         (MayRefuseAny sources.now run.now.workers) }
 {
     let made = make_documents(run, sources, form)?;
     let unresolved_uses = unresolved_of(run.alloc, made.as_slice())?;
     let option_gaps = option_gaps_of(run.alloc, made.as_slice())?;
+    let uncertain_names = uncertain_names_of(run.alloc, made.as_slice())?;
     let documents = documents_of(run.alloc, made)?;
     let external_symbols = externals_of(sources)?;
     let settings = sources.settings;
@@ -146,11 +150,12 @@ fn make_parts<R: Threads + Wait, G: Gate, F: DocumentForm + Sync>(
         documents: Sequence::from_vec(documents),
         external_symbols,
     };
-    Ok((
+    Ok(MadeParts {
         parts,
-        Sequence::from_vec(unresolved_uses),
-        Sequence::from_vec(option_gaps),
-    ))
+        unresolved_uses: Sequence::from_vec(unresolved_uses),
+        option_gaps: Sequence::from_vec(option_gaps),
+        uncertain_names: Sequence::from_vec(uncertain_names),
+    })
 }
 
 /// What is made of linked files that were read, with these options if names in options are linked.
@@ -188,10 +193,11 @@ fn make_from<'l, 'f, R: Threads + Wait, G: Gate, F: DocumentForm + Sync>(
         Err(fault) => return Err(refusal_by(run.alloc, linker, fault)),
     };
     let made = Made {
-        parts: made.0,
+        parts: made.parts,
         choices,
-        unresolved_uses: made.1,
-        option_gaps: made.2,
+        unresolved_uses: made.unresolved_uses,
+        option_gaps: made.option_gaps,
+        uncertain_names: made.uncertain_names,
     };
     without_gaps(settings.faulty, made)
 }
@@ -261,7 +267,7 @@ fn make_whole<R: Threads + Wait, G: Gate, F: DocumentForm + Sync>(
 }
 
 /// What is made of the files that are kept, the imports of them that name no file, why uses of them name nothing, and
-/// which of them may name another type.
+/// which of them may name another type, or which names in their options another field.
 #[tactic(auto, using(crate::proofs::LinkingRefusalRules::of_skipping))]
 fn make_kept<R: Threads + Wait, G: Gate, F: DocumentForm + Sync>(
     run: &Run<'_, R, G>,
@@ -276,7 +282,8 @@ fn make_kept<R: Threads + Wait, G: Gate, F: DocumentForm + Sync>(
         (λ kept. IsMadeOf (kept_at settings.now.at F.is_kept) parsed.now settings.now kept.made
         × AreMissing (linked_files parsed.now) kept.missing.items
         × AreUseFaults (linked_files parsed.now) kept.made.unresolved_uses kept.faults.items
-        × AreUncertainUses (linked_files parsed.now) kept.uncertain.items)
+        × AreUncertain (asked_in settings.now parsed.now) parsed.now (linked_files parsed.now)
+        kept.uncertain.items)
         (MayRefuseSkipping run.now.workers) }
 {
     let files = linked_files(run.alloc, parsed)?;
@@ -284,7 +291,8 @@ fn make_kept<R: Threads + Wait, G: Gate, F: DocumentForm + Sync>(
     let missing = linker.missing_imports(run.alloc)?;
     let made = make_linked(run, &linker, parsed, settings, form)?;
     let faults = faults_at(run.alloc, &linker, made.unresolved_uses.as_slice())?;
-    let uncertain = linker.uncertain_uses(run.alloc)?;
+    let mut uncertain = linker.uncertain_uses(run.alloc)?;
+    add_names(&mut uncertain, made.uncertain_names.as_slice())?;
     Ok(KeptParts {
         made,
         missing,
@@ -405,8 +413,9 @@ fn index_of(parts: Parts<Document>) -> Index
 /// is made.
 ///
 /// If faults are skipped, the files that have one are left out, and imports and uses that then name nothing don't
-/// occur; what is told beside the index is just these, the options that have gaps, if names in options are linked, and
-/// the uses that may name another type once a file can be read; and `Spawn` and `Memory` alone are refusals. Else
+/// occur; what is told beside the index is just these, the options that have gaps, if names in options are linked, the
+/// uses that may name another type once a file can be read, and the names in options that may then name another field;
+/// and `Spawn` and `Memory` alone are refusals. Else
 /// nothing is told, and of the refusals the first is answered: `Spawn`, `Memory`, or the first source that can't be
 /// read; then the first included file that some source reaches and that can't be read; then `Duplicate`,
 /// `MissingImport`; then `Spawn`, `Memory`, or the first use of the first source in which one names no type; then

@@ -26,8 +26,8 @@ pub enum Omission {
     /// An option with a name that names nothing, and should, by the place of the first such name. It comes only if
     /// names in options are linked.
     OptionGap(FilePlace),
-    /// A use that names a type, but may name another one once a file can be read: by the place of the whole use, and the
-    /// number of that file, the first of those that the use's file sees and that can't be read. It occurs, since mostly
-    /// what it names is right.
+    /// A use that names a type, or a name in an option that names a field, but may name another one once a file can be
+    /// read: by the place of the whole use or name, and the number of that file, the first of those that the use's file
+    /// sees and that can't be read. It occurs, since mostly what it names is right.
     Uncertain(FilePlace, usize),
 }

@@ -56,6 +56,7 @@ impl<'a, 'b, 'l, 'f, 'r, F: DocumentForm + Sync> Job for PhaseTwo<'a, 'b, 'l, 'f
         let PlannedWithOptions {
             planned,
             option_gaps,
+            uncertain_names,
         } = made;
         let (plan, unresolved) = planned.into_parts();
         let alloc = self.sources.alloc;
@@ -65,6 +66,7 @@ impl<'a, 'b, 'l, 'f, 'r, F: DocumentForm + Sync> Job for PhaseTwo<'a, 'b, 'l, 'f
             kept,
             unresolved,
             option_gaps,
+            uncertain_names,
         })
     }
 }
@@ -80,7 +82,7 @@ fn refusal(number: usize, fault: NoDocument) -> BuildFault
 }
 
 /// Makes the documents of the sources, by path, on workers, with the gate's calls round each, and keeps of
-/// each what the form says, its uses that name no type, and the gaps of its options.
+/// each what the form says, its uses that name no type, and the gaps and uncertain names of its options.
 ///
 /// Of the refusals, `Spawn` comes before `Memory`, and `Memory` before `Unresolved`, which is of the first source,
 /// and comes only if such uses are refused; but if the least source that has no document lacks memory, it is

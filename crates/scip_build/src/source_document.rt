@@ -5,7 +5,7 @@ ghost use Rattle.std.specs.List.{slice_get};
 ghost use Rattle.scip_build.specs.declared.faulty.Faulty.TheVariants.{Refuse};
 ghost use Rattle.scip_model.specs.Makers as makers;
 ghost use Rattle.scip_model.specs.Makers.{AreItsGaps, HasSourceText, IsItsDocumentWith, IsOfSource};
-ghost use Rattle.scip_model.specs.Options.{AreOptionGapsIf};
+ghost use Rattle.scip_model.specs.Options.{AreOptionGapsIf, AreUncertainNamesIf};
 ghost use Rattle.scip_build.specs.Documents.{IsRead, HasReadText, asked_in};
 ghost use Rattle.scip_build.specs.Works.{HasSource, HasReadSource, HasTextRead, GivesDocumentOf, HasGoodPaths};
 ghost use Rattle.scip_build.specs.Works.{HasChosen, HasOptions};
@@ -50,7 +50,8 @@ fn text_at<'a, 'r>(parsed: &'a [ParsedFile<'r>], number: usize) -> &'a Text<'r>
     }
 }
 
-/// The plan of a document, with what the names in its options name if they are linked, and the gaps of these.
+/// The plan of a document, with what the names in its options name if they are linked, and the gaps and uncertain names
+/// of these.
 fn plan<'a, 'f>(
     sources: &LinkedSources<'a, '_, 'f, '_>,
     maker: &DocumentMaker<'a, '_, 'f, '_>,
@@ -67,12 +68,16 @@ fn plan<'a, 'f>(
     ensures option_gaps { IfOk result (λ made. AreOptionGapsIf
         (asked_in sources.now.settings.now sources.now.parsed.now) maker.now.package.now.files maker.now.source
         maker.now.text.now made.option_gaps) }
+    ensures uncertain_names { IfOk result (λ made. AreUncertainNamesIf
+        (asked_in sources.now.settings.now sources.now.parsed.now) maker.now.package.now.files maker.now.source
+        maker.now.text.now made.uncertain_names) }
 {
     match sources.options {
         Some(options) => plan_with_options(maker, options),
         None => Ok(PlannedWithOptions {
             planned: plan_document(maker)?,
             option_gaps: Sequence::new(sources.alloc),
+            uncertain_names: Sequence::new(sources.alloc),
         }),
     }
 }
@@ -89,8 +94,8 @@ fn first_refused(faulty: Faulty, unresolved: &[Span]) -> Option<Span>
     }
 }
 
-/// The plan of the document of a source that was read, its uses that name no type, and the gaps of its options, if
-/// names in options are linked; `Unresolved` at the first of the uses, if such are refused.
+/// The plan of the document of a source that was read, its uses that name no type, and the gaps and uncertain names of
+/// its options, if names in options are linked; `Unresolved` at the first of the uses, if such are refused.
 pub(crate) fn make_document<'a, 'f>(
     sources: &LinkedSources<'a, '_, 'f, '_>,
     number: usize,

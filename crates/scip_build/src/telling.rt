@@ -124,7 +124,8 @@ fn push_uses(
     Ok(())
 }
 
-/// Adds the uses of kept files that may name another type, each by the number of the file for which it may.
+/// Adds the uses of kept files that may name another type, and the names in their options that may name another field,
+/// each by the number of the file for which it may.
 fn push_uncertain(
     told: &mut Vec<Omission>,
     numbers: &[usize],
@@ -132,9 +133,9 @@ fn push_uncertain(
 ) -> Result<(), AllocError>
     ensures { OnOk result (told.new.items ≡ told.old.items ++ map (told_uncertain numbers.now) uncertain.now) }
 {
-    for type_use in uncertain {
-        let behind = number_in(numbers, type_use.behind);
-        told.push(Omission::Uncertain(moved(numbers, &type_use.place), behind))?;
+    for one in uncertain {
+        let behind = number_in(numbers, one.behind);
+        told.push(Omission::Uncertain(moved(numbers, &one.place), behind))?;
     }
     Ok(())
 }
@@ -208,7 +209,8 @@ fn in_order(told: Vec<Omission>) -> Result<Vec<Omission>, AllocError>
 }
 
 /// All that is told: what is left out, the imports of kept files without a target, why uses of them name nothing,
-/// which uses of them may name another type, and which options have gaps; files have these numbers among all.
+/// which uses of them may name another type or names in their options another field, and which options have gaps; files
+/// have these numbers among all.
 pub(crate) fn tell(
     left: Vec<Omission>,
     numbers: &[usize],

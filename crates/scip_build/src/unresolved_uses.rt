@@ -1,12 +1,13 @@
-//! What was made of the sources, apart: what is kept of their documents, their uses that name no type, and the gaps of
-//! their options.
+//! What was made of the sources, apart: what is kept of their documents, their uses that name no type, and the gaps and
+//! uncertain names of their options.
 
 ghost use Rattle.std.specs.Prelude.{◌≡◌, ◌++◌, IfOk, OnOk, map};
-ghost use Rattle.scip_build.specs.Made.{gaps_from, place_in, unresolved_from};
+ghost use Rattle.scip_build.specs.Made.{gaps_from, name_in, names_from, place_in, unresolved_from};
 
 use crate::made::MadeDocument;
 use proto_lex::Span;
-use proto_link::FilePlace;
+use proto_link::{FilePlace, UncertainUse};
+use scip_model::UncertainPlace;
 use std::alloc::{AllocError, Global};
 
 /// Adds the places of spans of a file.
@@ -45,6 +46,53 @@ pub(crate) fn option_gaps_of<T: Drop>(
         push_places(&mut places, file, document.option_gaps.as_slice())?;
     }
     Ok(places)
+}
+
+/// Adds the uncertain names of a file, which are at these places.
+fn push_names(
+    names: &mut Vec<UncertainUse>,
+    file: usize,
+    places: &[UncertainPlace],
+) -> Result<(), AllocError>
+    ensures { OnOk result (names.new.items ≡ names.old.items ++ map (name_in file) places.now) }
+{
+    for at in places {
+        names.push(UncertainUse {
+            place: FilePlace {
+                file,
+                span: at.span,
+            },
+            behind: at.behind,
+        })?;
+    }
+    Ok(())
+}
+
+/// The uncertain names of options, by source, and in order.
+pub(crate) fn uncertain_names_of<T: Drop>(
+    alloc: Global,
+    made: &[MadeDocument<T>],
+) -> Result<Vec<UncertainUse>, AllocError>
+    ensures { IfOk result (λ names. names.items ≡ names_from 0 made.now) }
+{
+    let mut names = Vec::new(alloc);
+    for (file, document) in made.iter().enumerate() {
+        push_names(&mut names, file, document.uncertain_names.as_slice())?;
+    }
+    Ok(names)
+}
+
+/// Adds uncertain names to uncertain uses.
+pub(crate) fn add_names(
+    uncertain: &mut Vec<UncertainUse>,
+    names: &[UncertainUse],
+) -> Result<(), AllocError>
+    ensures { OnOk result (uncertain.new.items ≡ uncertain.old.items ++ names.now) }
+{
+    for name in names {
+        uncertain.push(*name)?;
+    }
+    Ok(())
 }
 
 /// What is kept of the documents, in order.

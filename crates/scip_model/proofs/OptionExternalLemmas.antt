@@ -10,7 +10,6 @@ use Rattle.basics.proofs.ListLemmas.{item_at, in_nothing}
 use Rattle.basics.proofs.FirstLemmas.{contained, contained_at}
 use Rattle.proto_options.specs.declared.options.FileOption.{FileOption}
 use Rattle.proto_visibility.specs.Files.{File, IsSource}
-use Rattle.proto_visibility.specs.declared.lookup.Entity.{Entity}
 use Rattle.proto_visibility.specs.declared.lookup.Entity.TheVariants as link
 use Rattle.option_link.specs.declared.facts.OptionFacts.{OptionFacts}
 use Rattle.option_link.specs.declared.target.OptionTarget.{OptionTarget}

@@ -14,10 +14,12 @@ use Rattle.proto_options.specs.declared.names.OptionName.{OptionName}
 use Rattle.proto_options.specs.declared.options.FileOption.{FileOption}
 use Rattle.proto_visibility.specs.Files.{File}
 use Rattle.option_link.specs.declared.facts.OptionFacts.{OptionFacts}
-use Rattle.option_link.specs.Laws.{OneGapAnOption}
-use Rattle.scip_model.specs.Options.{AreOptionGapsIf, IsOptionGap, span_of_name}
+use Rattle.option_link.specs.declared.target.UncertainName.{UncertainName}
+use Rattle.option_link.specs.Laws.{OneGapAnOption, OneUncertainNameAnOption}
+use Rattle.scip_model.specs.declared.option_told.UncertainPlace.{UncertainPlace}
+use Rattle.scip_model.specs.Options.{AreOptionGapsIf, AreUncertainNamesIf, IsOptionGap, IsUncertainIn, span_of_name}
 use Rattle.scip_model.specs.Tables.Additions.{Adds, FromFront}
-use Rattle.scip_model.specs.Tables.OptionListing.{TellsGap, gap_of}
+use Rattle.scip_model.specs.Tables.OptionListing.{TellsGap, TellsUncertain, gap_of, uncertain_of}
 use Rattle.scip_model.proofs.MergeLemmas.{at_head}
 use Rattle.scip_model.proofs.OptionOccurLemmas.{of-file}
 
@@ -78,3 +80,60 @@ module _ (files : List File) (known : List OptionFacts) (source : ℕ) (text : L
       all : Adds (λ span. (beside : OptionFacts) × (slice_get known source ≡ Some beside) × (option : FileOption)
           × Contains beside.options option × GapOf option span) [] spans
       all = of-file known (λ (beside : OptionFacts). beside.options) source GapOf options are [] spans adds
+
+  -- ---- uncertain names
+
+  abbrev UncertainOf : FileOption → UncertainPlace → Type 0
+  UncertainOf option place = IsUncertainIn files known source text option place
+
+  pub one-uncertain : (one : OneUncertainNameAnOption) (option : FileOption) (uncertain : Option UncertainName)
+      → TellsUncertain files known source text option uncertain → (old new : List UncertainPlace)
+      → new ≡ old ++ uncertain_of option uncertain → Adds (UncertainOf option) old new
+  one-uncertain one option None tells old new same = λ x. (
+    λ h. inl (subst (λ (l : List UncertainPlace). Contains l x) (same ∙ append-nil old) h),
+    ⊎_elim (λ h. subst (λ (l : List UncertainPlace). Contains l x) (sym (same ∙ append-nil old)) h)
+        (λ its. absurd (tells its.uncertain.name_number its.uncertain.behind its.is.doubt)),
+  )
+  one-uncertain one option (Some uncertain) tells old new same =
+      let name = tells.doubt.name in
+      let numbered = tells.doubt.names.numbered in
+      let place : UncertainPlace = record { span = span_of_name name.name; behind = uncertain.behind } in
+      let list : new ≡ old ++ place ∷ [] =
+      same ∙ ap (λ (o : Option OptionName). old ++ option_map_or
+      (λ (n : OptionName). record { span = span_of_name n.name; behind = uncertain.behind } ∷ []) o []) numbered in
+      λ x. (
+        λ h. ⊎_elim inl (λ e. inr (record {
+          uncertain = uncertain;
+          name = name;
+          is = tells;
+          numbered = numbered;
+          place_is = sym e;
+        })) (Contains-push_cases old place x (subst (λ (l : List UncertainPlace). Contains l x) list h)),
+        λ h. subst (λ (l : List UncertainPlace). Contains l x) (sym list)
+            (⊎_elim (Contains-append_left old (place ∷ []) x)
+            (λ its.
+            let this : uncertain ≡ its.uncertain =
+            one files known source text option uncertain its.uncertain tells its.is in
+            let names : name ≡ its.name = same_Some name its.name
+            (sym numbered ∙ (ap (λ (u : UncertainName). slice_get option.setting.names u.name_number) this
+            ∙ its.numbered)) in
+            let moved : place ≡ record { span = span_of_name its.name.name; behind = its.uncertain.behind } =
+            λ i. record { span = span_of_name (names i).name; behind = (this i).behind } in
+            Contains-append_right old (place ∷ []) x (at_head x place [] (moved ∙ sym its.place_is))) h),
+      )
+
+  -- those of all
+  pub all-uncertain : (options : List FileOption)
+      → MatchOption (slice_get known source) (options ≡ []) (λ beside. options ≡ beside.options)
+      → (places : List UncertainPlace) → Adds (FromFront UncertainOf options (length options)) [] places
+      → AreUncertainNamesIf (Some known) files source text places
+  all-uncertain options are places adds = λ place. (
+    λ h. ⊎_elim (λ none. absurd (in_nothing place none))
+        (λ its. record { beside = its.0; its = its.1; option = its.2; listed = its.3; is = its.4 })
+        ((all place).0 h),
+    λ its. (all place).1 (inr (its.beside, its.its, its.option, its.listed, its.is)),
+  )
+    where
+      all : Adds (λ place. (beside : OptionFacts) × (slice_get known source ≡ Some beside) × (option : FileOption)
+          × Contains beside.options option × UncertainOf option place) [] places
+      all = of-file known (λ (beside : OptionFacts). beside.options) source UncertainOf options are [] places adds

@@ -1,5 +1,5 @@
 -- What names in options name, by their parts: the last one is what the name names.
-use Rattle.std.proofs.Common.{◌≡◌, ◌∙◌, ◌↔◌, sym, ap, subst, ℕ, ◌+◌, ◌-◌, ◌<◌, Option, None, Some, List, length, get_or, arith}
+use Rattle.std.proofs.Common.{◌≡◌, ◌∙◌, ◌↔◌, sym, ap, subst, ℕ, ◌+◌, ◌-◌, Option, Some, List, length, get_or, arith}
 use Rattle.std.specs.List.{All, Contains, slice_get}
 use Rattle.std.proofs.lemmas.Option.{same_Some, slice_get-get_or, slice_get_within}
 use Rattle.basics.proofs.FirstLemmas.{contained}
@@ -15,6 +15,7 @@ use Rattle.proto_visibility.specs.declared.lookup.Entity.TheVariants as link
 use Rattle.option_link.specs.declared.facts.OptionFacts.{OptionFacts}
 use Rattle.option_link.specs.declared.place.DeclaredPlace.{DeclaredPlace}
 use Rattle.option_link.specs.declared.target.OptionTarget.{OptionTarget}
+use Rattle.option_link.specs.declared.target.UncertainName.{UncertainName}
 use Rattle.option_link.specs.Contexts.{NamesAs}
 use Rattle.option_link.specs.Contexts.NamesAs.{field, group, extension, item, packed, value}
 use Rattle.option_link.specs.OptionNames.{IsOptionTarget, NamesParts}
@@ -26,7 +27,7 @@ use Rattle.scip_model.specs.Named.{HasDeclaration}
 use Rattle.scip_model.specs.Tables.ExternalLists.{IsKnownPart}
 use Rattle.scip_model.specs.Tables.KnownFacts.{AreIdentifiers}
 use Rattle.scip_model.specs.Tables.Listing.{IsNameable}
-use Rattle.scip_model.specs.Tables.OptionListing.{IsLastPart, TellsGap}
+use Rattle.scip_model.specs.Tables.OptionListing.{IsLastPart, TellsGap, TellsUncertain}
 use Rattle.scip_model.proofs.ExternalSymbolLemmas.{known-part}
 use Rattle.scip_model.proofs.ListingNameableLemmas.{declared_all, part_nameable}
 
@@ -65,6 +66,12 @@ module _ (linked files : List File) (same : linked ≡ files) (known : List Opti
   its-gap gap tells =
       subst (λ (its : List ℕ). TellsGap files known file its option gap) is_read
       (subst (λ (list : List File). TellsGap list known file read option gap) same tells)
+
+  pub its-uncertain : (uncertain : Option UncertainName) → TellsUncertain linked known file read option uncertain
+      → TellsUncertain files known file text option uncertain
+  its-uncertain uncertain tells =
+      subst (λ (its : List ℕ). TellsUncertain files known file its option uncertain) is_read
+      (subst (λ (list : List File). TellsUncertain list known file read option uncertain) same tells)
 
 module _ (files : List File) {name : OptionName} {at : DeclaredPlace} {behind : ℕ} {parts : List Entity}
     (named : NamesParts files name at behind parts) where

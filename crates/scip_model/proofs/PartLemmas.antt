@@ -1,5 +1,5 @@
 -- What is made of a part of files is what is made of the whole.
-use Rattle.std.proofs.Common.{◌≡◌, ◌∙◌, ◌⊎◌, inl, inr, ap, sym, subst, ℕ, ◌+◌, ◌<◌, Option, Some, None, List}
+use Rattle.std.proofs.Common.{◌≡◌, ◌∙◌, ◌⊎◌, inl, inr, ap, sym, subst, ℕ, ◌+◌, ◌<◌, Some, None, List}
 use Rattle.std.proofs.Common.{length, map, true, false}
 use Rattle.std.specs.List.{slice_get}
 use Rattle.std.specs.Option.{option_map}

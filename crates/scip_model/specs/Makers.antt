@@ -27,7 +27,8 @@ use Rattle.scip_model.specs.Chosen.{HasChoice, HaveChoices}
 use Rattle.scip_model.specs.Conditions.{HaveGoodPaths, AreUnresolvedUses, IsFound}
 use Rattle.scip_model.specs.Entries.{HasEntry}
 use Rattle.scip_model.specs.Indexes.{IsDocumentOf, IsDocumentWith}
-use Rattle.scip_model.specs.Options.{AreOptionGapsIf, IsOptionGap, OccursWith}
+use Rattle.scip_model.specs.Options.{AreOptionGapsIf, AreUncertainNamesIf, IsOptionGap, IsUncertainIn, OccursWith}
+use Rattle.scip_model.specs.declared.option_told.UncertainPlace.{UncertainPlace}
 use Rattle.scip_model.specs.Tables.OptionListing.{OccursByOption, OccursByTarget, OccursInOptionsIf}
 use Rattle.option_link.specs.OptionNames.{IsOptionTarget}
 use Rattle.option_link.specs.declared.place.DeclaredPlace.{DeclaredPlace}
@@ -230,6 +231,12 @@ module _ (maker : DocumentMaker) where
 
   abbrev pub AreItsOptionGaps : (asked : Option (List OptionFacts)) → List Span → Type 0
   AreItsOptionGaps asked = AreOptionGapsIf asked maker.package.now.files maker.source maker.text.now
+
+  abbrev pub IsItsUncertainName : (known : List OptionFacts) → FileOption → UncertainPlace → Type 0
+  IsItsUncertainName known = IsUncertainIn maker.package.now.files known maker.source maker.text.now
+
+  abbrev pub AreItsUncertainNames : (asked : Option (List OptionFacts)) → List UncertainPlace → Type 0
+  AreItsUncertainNames asked = AreUncertainNamesIf asked maker.package.now.files maker.source maker.text.now
 
   abbrev pub HasResolvedUses : Type 0
   HasResolvedUses = UsesResolve maker.package.now.files maker.source

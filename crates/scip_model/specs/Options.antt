@@ -12,6 +12,9 @@ use Rattle.proto_options.specs.declared.options.FileOption.{FileOption}
 use Rattle.option_link.specs.declared.facts.OptionFacts.{OptionFacts}
 use Rattle.option_link.specs.declared.target.OptionTarget.{OptionTarget}
 use Rattle.option_link.specs.OptionNames.{IsOptionTarget, IsGap}
+use Rattle.option_link.specs.Uncertain.{IsUncertainName}
+use Rattle.option_link.specs.declared.target.UncertainName.{UncertainName}
+use Rattle.scip_model.specs.declared.option_told.UncertainPlace.{UncertainPlace}
 use Rattle.proto_visibility.specs.Files.{File, IsSource}
 use Rattle.proto_visibility.specs.Reaches.{LinksOptions}
 use Rattle.proto_visibility.specs.declared.lookup.Entity.{Entity}
@@ -128,3 +131,35 @@ HasGapIf (Some known) files file text span = HasGapAt files known file text span
 abbrev pub AreOptionGapsIf : (asked : Option (List OptionFacts)) → List File → (file : ℕ) → (text : List ℕ)
     → List Span → Type 0
 AreOptionGapsIf asked files file text spans = (span : Span) → Contains spans span ↔ HasGapIf asked files file text span
+
+-- ---- options with an uncertain name
+
+-- where the uncertain name of an option of a file stands, and behind which file
+pub record IsUncertainIn (files : List File) (known : List OptionFacts) (file : ℕ) (text : List ℕ)
+    (option : FileOption) (place : UncertainPlace) : Type 0 where
+  pub uncertain : UncertainName
+  pub name : OptionName
+  pub is : IsUncertainName files known file text option uncertain
+  pub numbered : slice_get option.setting.names uncertain.name_number ≡ Some name
+  pub place_is : place ≡ record { span = span_of_name name.name; behind = uncertain.behind }
+
+-- an option of a file has it there
+pub record HasUncertainAt (files : List File) (known : List OptionFacts) (file : ℕ) (text : List ℕ)
+    (place : UncertainPlace) : Type 0 where
+  pub beside : OptionFacts
+  pub its : slice_get known file ≡ Some beside
+  pub option : FileOption
+  pub listed : Contains beside.options option
+  pub is : IsUncertainIn files known file text option place
+
+-- the same, if names in options are linked; else none are looked for
+abbrev pub HasUncertainIf : (asked : Option (List OptionFacts)) → List File → (file : ℕ) → (text : List ℕ)
+    → UncertainPlace → Type 0
+HasUncertainIf None files file text place = ⊥
+HasUncertainIf (Some known) files file text place = HasUncertainAt files known file text place
+
+-- the places of the uncertain names of a file's options
+abbrev pub AreUncertainNamesIf : (asked : Option (List OptionFacts)) → List File → (file : ℕ) → (text : List ℕ)
+    → List UncertainPlace → Type 0
+AreUncertainNamesIf asked files file text places =
+    (place : UncertainPlace) → Contains places place ↔ HasUncertainIf asked files file text place

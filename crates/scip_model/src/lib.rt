@@ -18,6 +18,7 @@ mod occurrence_order;
 mod occurrences;
 mod option_occurrences;
 mod option_parts;
+mod option_told;
 mod targets;
 mod use_occurrences;
 
@@ -50,6 +51,7 @@ pub use laws::{
 };
 pub use naming::SymbolPackages;
 pub use one_package::{document, externals};
+pub use option_told::UncertainPlace;
 pub use packages::{FilePackages, RootPackage};
 pub use pieces::{MergeFault, Unmerged, merge};
 pub use scip_records::{

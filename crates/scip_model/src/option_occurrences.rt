@@ -10,6 +10,7 @@ ghost use Rattle.proto_decl.specs.Uses.{name_start};
 ghost use Rattle.proto_decl.specs.declared.declaration.Declaration.{Declaration};
 ghost use Rattle.scip_model.specs.Makers.{
   AreItsOptionGaps,
+  AreItsUncertainNames,
   CanNameAt,
   HasChosen,
   HasDeclared,
@@ -19,6 +20,7 @@ ghost use Rattle.scip_model.specs.Makers.{
   IsDeclaredAt,
   IsItsOptionGap,
   IsItsOptionTarget,
+  IsItsUncertainName,
   IsOfSource,
   OccursByItsOption,
   OccursByItsTarget,
@@ -31,7 +33,7 @@ ghost use Rattle.scip_model.specs.Tables.Additions.{Adds};
 ghost use Rattle.scip_model.specs.Tables.KnownParts.{AreKnown};
 ghost use Rattle.scip_model.specs.Tables.Listing.{each_from};
 ghost use Rattle.scip_model.specs.Tables.Merges.{AreUntied, IsMergedApart};
-ghost use Rattle.scip_model.specs.Tables.OptionListing.{gap_of};
+ghost use Rattle.scip_model.specs.Tables.OptionListing.{gap_of, uncertain_of};
 ghost use Rattle.scip_model.specs.Tables.Plans.{AddsPlanned, AreAdded, Around, Grown, occurrence_of};
 
 use crate::document_maker::DocumentMaker;
@@ -40,9 +42,13 @@ use crate::known_facts::facts_occur_in_order;
 use crate::known_parts::KnownParts;
 use crate::occurrence_order::{in_order, merged};
 use crate::option_parts::{OptionPlan, add_part_at};
+use crate::option_told::{ToldOfOptions, UncertainPlace};
 use crate::symbol_table::SymbolTable;
 use crate::targets::last_place;
-use option_link::{DeclaredPlace, OptionLinker, OptionTarget, one_gap_an_option};
+use option_link::{
+    DeclaredPlace, OptionLinker, OptionTarget, UncertainName, one_gap_an_option,
+    one_uncertain_name_an_option,
+};
 use proto_lex::Span;
 use proto_link::Entity;
 use proto_options::{FileOption, OptionName};
@@ -175,10 +181,34 @@ fn add_gap(gaps: &mut Vec<Span>, option: &FileOption, gap: Option<usize>) -> Res
     }
 }
 
-/// Adds the occurrences of the names in an option, and its place if it has a gap. What they name is let go at once.
+/// Adds the place of the uncertain name, if an option has one.
+fn add_uncertain(
+    places: &mut Vec<UncertainPlace>,
+    option: &FileOption,
+    uncertain: Option<UncertainName>,
+) -> Result<(), AllocError>
+    ensures { OnOk result (places.new.items ≡ places.old.items ++ uncertain_of option.now uncertain) }
+{
+    let Some(uncertain) = uncertain else {
+        return Ok(());
+    };
+    match name_at(option, uncertain.name_number) {
+        Some(name) => {
+            places.push(UncertainPlace {
+                span: span_of_name(&name.name),
+                behind: uncertain.behind,
+            })?;
+            Ok(())
+        }
+        None => Ok(()),
+    }
+}
+
+/// Adds the occurrences of the names in an option, its place if it has a gap, and that of its uncertain name. What they
+/// name is let go at once.
 fn add_option(
     plan: &mut OptionPlan,
-    gaps: &mut Vec<Span>,
+    told: &mut ToldOfOptions,
     maker: &DocumentMaker<'_, '_, '_, '_>,
     options: &OptionLinker<'_, '_, '_>,
     option: &FileOption,
@@ -194,41 +224,48 @@ fn add_option(
     ensures added { OnOk result ((around : Around) → AddsPlanned around texts.new
         (OccursByItsOption maker.now options.now.known option.now) plan.old.list.items plan.new.list.items) }
     ensures gaps { OnOk result
-        (Adds (IsItsOptionGap maker.now options.now.known option.now) gaps.old.items gaps.new.items) }
+        (Adds (IsItsOptionGap maker.now options.now.known option.now) told.old.gaps.items told.new.gaps.items) }
+    ensures uncertain { OnOk result (Adds (IsItsUncertainName maker.now options.now.known option.now)
+        told.old.uncertain.items told.new.uncertain.items) }
 {
     one_gap_an_option();
+    one_uncertain_name_an_option();
     let text = maker.text.as_str();
     let found = options.targets(maker.alloc, maker.source, text, option)?;
     for target in found.targets.as_slice() {
         add_target(plan, maker, options, option, target, texts)?;
     }
-    add_gap(gaps, option, found.gap)
+    add_gap(&mut told.gaps, option, found.gap)?;
+    add_uncertain(&mut told.uncertain, option, found.uncertain)
 }
 
-/// What the names in the options of the source name, as often as it is named, and the places of the gaps of options,
-/// which are added to `gaps`: option by option. A symbol's text that is named again is mostly not made again.
+/// What the names in the options of the source name, as often as it is named, and what is told of its options, which is
+/// added to `told`: option by option. A symbol's text that is named again is mostly not made again.
 fn option_occurrences(
     maker: &DocumentMaker<'_, '_, '_, '_>,
     options: &OptionLinker<'_, '_, '_>,
-    gaps: &mut Vec<Span>,
+    told: &mut ToldOfOptions,
     texts: &mut SymbolTable,
 ) -> Result<Vec<PlannedOccurrence>, AllocError>
     requires source { IsOfSource maker.now }
     requires options { HasOptions maker.now options.now }
     requires chosen { HasChosen maker.now }
     requires own { HasSourceTexts maker.now texts.old }
-    requires empty { gaps.old.items ≡ [] }
+    requires empty { told.old.gaps.items ≡ [] }
+    requires certain { told.old.uncertain.items ≡ [] }
     ensures grown { OnOk result (Grown texts.old texts.new) }
     ensures planned { IfOk result (λ list. (around : Around) → AddsPlanned around texts.new
         (OccursInItsOptions maker.now (Some options.now.known)) [] list.items) }
-    ensures gaps { OnOk result (AreItsOptionGaps maker.now (Some options.now.known) gaps.new.items) }
+    ensures gaps { OnOk result (AreItsOptionGaps maker.now (Some options.now.known) told.new.gaps.items) }
+    ensures uncertain { OnOk result
+        (AreItsUncertainNames maker.now (Some options.now.known) told.new.uncertain.items) }
 {
     let its_options = options.options_of(maker.source);
     let known = KnownParts::new(maker.alloc, its_options.len())?;
     let list = Vec::with_capacity(maker.alloc, its_options.len())?;
     let mut plan = OptionPlan { list, known };
     for option in its_options {
-        add_option(&mut plan, gaps, maker, options, option, texts)?;
+        add_option(&mut plan, told, maker, options, option, texts)?;
     }
     Ok(plan.list)
 }
@@ -237,22 +274,25 @@ fn option_occurrences(
 pub(crate) fn occurrences_if_asked(
     maker: &DocumentMaker<'_, '_, '_, '_>,
     options: Option<&OptionLinker<'_, '_, '_>>,
-    gaps: &mut Vec<Span>,
+    told: &mut ToldOfOptions,
     texts: &mut SymbolTable,
 ) -> Result<Vec<PlannedOccurrence>, AllocError>
     requires source { IsOfSource maker.now }
     requires options { MatchOption options ⊤ (λ linked. HasOptions maker.now linked.now) }
     requires chosen { HasChosen maker.now }
     requires own { HasSourceTexts maker.now texts.old }
-    requires empty { gaps.old.items ≡ [] }
+    requires empty { told.old.gaps.items ≡ [] }
+    requires certain { told.old.uncertain.items ≡ [] }
     ensures grown { OnOk result (Grown texts.old texts.new) }
     ensures planned { IfOk result (λ list. (around : Around) → AddsPlanned around texts.new
         (OccursInItsOptions maker.now (option_map (λ linked. linked.now.known) options.entry)) [] list.items) }
     ensures gaps { OnOk result
-        (AreItsOptionGaps maker.now (option_map (λ linked. linked.now.known) options.entry) gaps.new.items) }
+        (AreItsOptionGaps maker.now (option_map (λ linked. linked.now.known) options.entry) told.new.gaps.items) }
+    ensures uncertain { OnOk result (AreItsUncertainNames maker.now
+        (option_map (λ linked. linked.now.known) options.entry) told.new.uncertain.items) }
 {
     match options {
-        Some(options) => option_occurrences(maker, options, gaps, texts),
+        Some(options) => option_occurrences(maker, options, told, texts),
         None => Ok(Vec::new(maker.alloc)),
     }
 }

@@ -10,6 +10,7 @@ ghost use Rattle.scip_model.specs.Tables.Plans.{Grown, occurrence_of};
 ghost use Rattle.scip_model.specs.Makers.{
   AreItsGaps,
   AreItsOptionGaps,
+  AreItsUncertainNames,
   HasChosen,
   HasGoodPaths,
   HasOptions,
@@ -37,6 +38,7 @@ use crate::occurrences::{
     package_occurrences,
 };
 use crate::option_occurrences::{occurrences_if_asked, with_options};
+use crate::option_told::{ToldOfOptions, UncertainPlace};
 use crate::symbol_table::SymbolTable;
 use crate::symbol_texts::{arounds_in, own_texts};
 use crate::use_occurrences::use_occurrences;
@@ -93,13 +95,15 @@ pub struct SourceDocument {
     pub unresolved: Sequence<Span>,
 }
 
-/// The plan of the document of a source with what its options name, and the places of the gaps of these.
+/// The plan of the document of a source with what its options name, and what is told of these.
 #[derive(Drop)]
 pub struct PlannedWithOptions<'a, 't> {
     /// The plan, and the places of the source's uses that name no type.
     pub planned: PlannedDocument<'a, 't>,
     /// The place of each option's first name that names nothing, and should: option by option.
     pub option_gaps: Sequence<Span>,
+    /// The place of each option's first name that may name another field once a file can be read.
+    pub uncertain_names: Sequence<UncertainPlace>,
 }
 
 /// The plan of the document of a source of linked files, which has this text, by what was chosen for each
@@ -117,12 +121,13 @@ pub fn plan_document<'a, 'f>(
     ensures unresolved_uses { IfOk result (λ made. AreItsGaps maker.now made.unresolved) }
     ensures refused { IfErr result (λ fault. fault ≡ Memory) }
 {
-    let mut gaps = Vec::new(maker.alloc);
-    plan_asked(maker, None, &mut gaps)
+    let mut told = ToldOfOptions::new(maker.alloc);
+    plan_asked(maker, None, &mut told)
 }
 
 /// The same with what the names in its options name, and the places of the gaps of its options: of each option that has
-/// one the first name that names nothing, and should. Such a name doesn't occur.
+/// one the first name that names nothing, and should. Such a name doesn't occur. The first name of an option that may
+/// name another field once a file can be read does, and its place is told.
 ///
 /// `options` has to be of the same files.
 pub fn plan_with_options<'a, 'f>(
@@ -138,34 +143,40 @@ pub fn plan_with_options<'a, 'f>(
         made.planned.document) }
     ensures unresolved_uses { IfOk result (λ made. AreItsGaps maker.now made.planned.unresolved) }
     ensures option_gaps { IfOk result (λ made. AreItsOptionGaps maker.now (Some options.now.known) made.option_gaps) }
+    ensures uncertain_names { IfOk result (λ made. AreItsUncertainNames maker.now (Some options.now.known)
+        made.uncertain_names) }
     ensures refused { IfErr result (λ fault. fault ≡ Memory) }
 {
-    let mut gaps = Vec::new(maker.alloc);
-    let planned = plan_asked(maker, Some(options), &mut gaps)?;
+    let mut told = ToldOfOptions::new(maker.alloc);
+    let planned = plan_asked(maker, Some(options), &mut told)?;
     Ok(PlannedWithOptions {
         planned,
-        option_gaps: Sequence::from_vec(gaps),
+        option_gaps: Sequence::from_vec(told.gaps),
+        uncertain_names: Sequence::from_vec(told.uncertain),
     })
 }
 
-/// The plan of the document of a source, with what the names in its options name if it is asked for. The places of
-/// the gaps of its options are added to `gaps`.
+/// The plan of the document of a source, with what the names in its options name if it is asked for. What is
+/// told of its options is added to `told`.
 fn plan_asked<'a, 'f>(
     maker: &DocumentMaker<'a, '_, 'f, '_>,
     options: Option<&OptionLinker<'_, '_, '_>>,
-    gaps: &mut Vec<Span>,
+    told: &mut ToldOfOptions,
 ) -> Result<PlannedDocument<'a, 'f>, LinkFault>
     requires source { IsOfSource maker.now }
     requires text { HasSourceText maker.now }
     requires paths { HasGoodPaths maker.now }
     requires choices { HasChosen maker.now }
     requires options { MatchOption options ⊤ (λ linked. HasOptions maker.now linked.now) }
-    requires empty { gaps.old.items ≡ [] }
+    requires empty { told.old.gaps.items ≡ [] }
+    requires certain { told.old.uncertain.items ≡ [] }
     ensures document { IfOk result (λ made.
         IsItsDocumentWith maker.now (option_map (λ linked. linked.now.known) options.entry) made.document) }
     ensures unresolved_uses { IfOk result (λ made. AreItsGaps maker.now made.unresolved) }
     ensures option_gaps { OnOk result
-        (AreItsOptionGaps maker.now (option_map (λ linked. linked.now.known) options.entry) gaps.new.items) }
+        (AreItsOptionGaps maker.now (option_map (λ linked. linked.now.known) options.entry) told.new.gaps.items) }
+    ensures uncertain_names { OnOk result (AreItsUncertainNames maker.now
+        (option_map (λ linked. linked.now.known) options.entry) told.new.uncertain.items) }
     ensures refused { IfErr result (λ fault. fault ≡ Memory) }
 {
     // From here on it is known that no names of the files clash, and that their facts are those of texts.
@@ -177,7 +188,7 @@ fn plan_asked<'a, 'f>(
     let home = maker.package.home_of(maker.source);
     let own = own_texts(alloc, &home, maker.package.run(), facts)?;
     let mut texts = SymbolTable::new(alloc, own);
-    let of_options = occurrences_if_asked(maker, options, gaps, &mut texts)?;
+    let of_options = occurrences_if_asked(maker, options, told, &mut texts)?;
     let mut unresolved = Vec::new(alloc);
     let besides = occurrences(maker, path, facts, &mut unresolved, &mut texts)?;
     let occurrences = with_options(alloc, &texts, besides, of_options)?;

@@ -11,6 +11,9 @@ use Rattle.option_link.specs.declared.facts.OptionFacts.{OptionFacts}
 use Rattle.option_link.specs.declared.place.DeclaredPlace.{DeclaredPlace}
 use Rattle.option_link.specs.declared.target.OptionTarget.{OptionTarget}
 use Rattle.option_link.specs.OptionNames.{IsGap, IsOptionTarget}
+use Rattle.option_link.specs.Uncertain.{IsInDoubt, IsUncertainName}
+use Rattle.option_link.specs.declared.target.UncertainName.{UncertainName}
+use Rattle.scip_model.specs.declared.option_told.UncertainPlace.{UncertainPlace}
 use Rattle.proto_visibility.specs.Files.{File, IsSource}
 use Rattle.proto_visibility.specs.declared.lookup.Entity.{Entity}
 use Rattle.proto_visibility.specs.declared.lookup.Entity.TheVariants as link
@@ -55,6 +58,22 @@ abbrev pub gap_of : FileOption → Option ℕ → List Span
 gap_of option None = []
 gap_of option (Some number) =
     option_map_or (λ (name : OptionName). span_of_name name.name ∷ []) (slice_get option.setting.names number) []
+
+-- ---- uncertain names
+
+-- what is told of the uncertain name of an option: its number and the file behind, or that there is none
+abbrev pub TellsUncertain : List File → List OptionFacts → (file : ℕ) → (text : List ℕ) → FileOption
+    → Option UncertainName → Type 0
+TellsUncertain files known file text option uncertain = MatchOption uncertain
+    ((number behind : ℕ) → IsInDoubt files known file text option number behind → ⊥)
+    (IsUncertainName files known file text option)
+
+-- its place
+abbrev pub uncertain_of : FileOption → Option UncertainName → List UncertainPlace
+uncertain_of option None = []
+uncertain_of option (Some uncertain) =
+    option_map_or (λ (name : OptionName). record { span = span_of_name name.name; behind = uncertain.behind } ∷ [])
+    (slice_get option.setting.names uncertain.name_number) []
 
 -- ---- what is asked for
 

@@ -1,5 +1,5 @@
-use Rattle.std.proofs.Common.{◌∙◌, ◌<◌, List, length, sym, subst}
-use Rattle.std.specs.Prelude.{All}
+use Rattle.std.proofs.Common.{◌∙◌, ◌<◌, ◌↔◌, ◌++◌, List, length, ap, sym, subst}
+use Rattle.std.specs.Prelude.{All, Contains}
 use Rattle.std.proofs.lemmas.Result.{err_from_is_err_and}
 use Rattle.proto_visibility.specs.Absences.{AreMissing}
 use Rattle.scip_build.specs.Linking.{linked_files}
@@ -7,7 +7,10 @@ use Rattle.scip_build.specs.Documents.{asked_in}
 use Rattle.proto_visibility.specs.Files.{File}
 use Rattle.proto_visibility.specs.declared.files.FilePlace.{FilePlace}
 use Rattle.scip_build.specs.Making.MayRefuseSkipping.{skipping_lacks_memory}
-use Rattle.scip_build.specs.Telling.{AreUncertainUses, AreUseFaults}
+use Rattle.scip_build.specs.Telling.{AreUseFaults}
+use Rattle.proto_link.specs.declared.uncertain_use.UncertainUse.{UncertainUse}
+use Rattle.proto_link.specs.Uncertain.{IsUncertain}
+use Rattle.scip_build.proofs.UncertainNameLemmas.{all_uncertain}
 use Rattle.scip_build.proofs.ToldUseLemmas.{all_within}
 use Rattle.scip_build.proofs.BuildsRefusalLemmas.{of_skipping}
 use Rattle.scip_build.proofs.building.make_kept.Goals as goal
@@ -34,13 +37,25 @@ returns g c =
       subst (λ fs. AreUseFaults fs c.in_ok-made.made.unresolved_uses faults) files
           (subst (λ places. AreUseFaults c.in_ok-linker.linker places faults) c.as_slice-2.ensures
           c.in_ok-faults.ensures),
-      subst (λ fs. AreUncertainUses fs c.in_ok-uncertain.uncertain.items) files c.in_ok-uncertain.ensures,
+      all_uncertain (asked_in c.args.settings.now c.args.parsed.now) c.args.parsed.now
+          (linked_files c.args.parsed.now) c.in_ok-uncertain.uncertain.items c.in_ok-made.made.uncertain_names
+          c.add_names.new.uncertain.items (c.in_ok-add_names.ensures
+          ∙ ap (λ names. c.in_ok-uncertain.uncertain.items ++ names) c.as_slice-3.ensures)
+          (subst (λ (fs : List File). (u : UncertainUse) → Contains c.in_ok-uncertain.uncertain.items u
+          ↔ IsUncertain fs u) files c.in_ok-uncertain.ensures)
+          c.in_ok-made.ensures.in_form.made.names,
     )
 
 pub returns-in_err-uncertain : goal.returns-in_err-uncertain
 returns-in_err-uncertain g c =
     let p = err_from_is_err_and c.from_residual-in_err-uncertain.result
     c.from_residual-in_err-uncertain.ensures.1 in
+    rw (p.1, p.2) skipping_lacks_memory
+
+pub returns-in_err-add_names : goal.returns-in_err-add_names
+returns-in_err-add_names g c =
+    let p = err_from_is_err_and c.from_residual-in_err-add_names.result
+    c.from_residual-in_err-add_names.ensures.1 in
     rw (p.1, p.2) skipping_lacks_memory
 
 pub faults_at-requires : goal.faults_at-requires

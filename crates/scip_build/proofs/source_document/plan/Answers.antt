@@ -2,7 +2,7 @@ use Rattle.std.proofs.Common.{◌∙◌, sym, subst, Option, List}
 use Rattle.std.specs.Prelude.{IfOk}
 use Rattle.option_link.specs.declared.facts.OptionFacts.{OptionFacts}
 use Rattle.scip_model.specs.Makers.{IsItsDocumentWith}
-use Rattle.scip_model.specs.Options.{AllLinkOptions, AreOptionGapsIf}
+use Rattle.scip_model.specs.Options.{AllLinkOptions, AreOptionGapsIf, AreUncertainNamesIf}
 use Rattle.scip_build.specs.Documents.{asked_in}
 use Rattle.scip_build.specs.Works.{AreLent}
 use Rattle.scip_build.proofs.source_document.plan.Goals as goal
@@ -42,3 +42,13 @@ returns-in-Some-clause-option_gaps c =
     subst (λ (asked : Option (List OptionFacts)). IfOk c.plan_with_options.result (λ made.
     AreOptionGapsIf asked maker.package.now.files maker.source maker.text.now made.option_gaps)) (sym has.0)
     c.plan_with_options.ensures.option_gaps
+
+pub returns-in-Some-clause-uncertain_names : goal.returns-in-Some-clause-uncertain_names
+returns-in-Some-clause-uncertain_names c =
+    let sources = c.args.sources.now in
+    let maker = c.args.maker.now in
+    let has = subst (AreLent (asked_in sources.settings.now sources.parsed.now) sources.package.now.files)
+    c.in-Some.is c.requires.options in
+    subst (λ (asked : Option (List OptionFacts)). IfOk c.plan_with_options.result (λ made.
+    AreUncertainNamesIf asked maker.package.now.files maker.source maker.text.now made.uncertain_names)) (sym has.0)
+    c.plan_with_options.ensures.uncertain_names

@@ -9,9 +9,9 @@ use Rattle.proto_visibility.specs.Files.{File, IsSource}
 use Rattle.proto_visibility.specs.Reaches.{LinksOptions}
 use Rattle.scip_model.specs.Makers.{OccursByItsTarget}
 use Rattle.scip_model.specs.Tables.Plans.{occurrence_of}
-use Rattle.scip_model.proofs.OptionGapLemmas.{one-gap}
+use Rattle.scip_model.proofs.OptionGapLemmas.{one-gap, one-uncertain}
 use Rattle.scip_model.proofs.OptionOccurLemmas.{by-option, front-none, planned-all, planned-more}
-use Rattle.scip_model.proofs.OptionTargetLemmas.{its-gap, its-targets}
+use Rattle.scip_model.proofs.OptionTargetLemmas.{its-gap, its-targets, its-uncertain}
 use Rattle.scip_model.proofs.PlanLemmas.{grown_same, grown_then, own_then}
 use Rattle.scip_model.proofs.option_occurrences.add_option.Goals as goal
 
@@ -76,7 +76,7 @@ returns-clause-added c =
     let known = c.args.options.now.known in
     let option = c.args.option.now in
     let targets = c.as_slice-target-items.result.now in
-    on_ok_weaker c.add_gap.result
+    on_ok_weaker c.add_uncertain.result
     (λ told around later grown.
     by-option maker.package.now.files known maker.choices.now maker.package.now.ids maker.encoding maker.source
     maker.text.now option targets
@@ -89,7 +89,7 @@ returns-clause-added c =
     (planned-all (OccursByItsTarget maker known option) targets c.loop-target.target-index c.loop-target.texts around
     c.args.plan.now.list.items c.loop-target.plan.list.items c.loop-target-test.false (c.loop-target.invariant.added around) later
     grown))
-    c.add_gap.ensures
+    c.add_uncertain.ensures
 
 pub returns-clause-gaps : goal.returns-clause-gaps
 returns-clause-gaps c =
@@ -98,8 +98,23 @@ returns-clause-gaps c =
     let known = c.args.options.now.known in
     let option = c.args.option.now in
     let gap = c.in_ok-found.found.gap in
-    on_ok_weaker c.add_gap.result
-    (one-gap files known maker.source maker.text.now c.one_gap_an_option.ensures option gap
+    on_ok_weaker c.add_uncertain.result
+    (λ told. one-gap files known maker.source maker.text.now c.one_gap_an_option.ensures option gap
     (its-gap c.args.options.now.files files c.requires.options.0 known maker.source c.as_str-text.result.now maker.text.now
-    c.as_str-text.ensures.same option gap c.in_ok-found.ensures.gap) c.args.gaps.now.items c.add_gap.new.gaps.items)
-    c.add_gap.ensures
+    c.as_str-text.ensures.same option gap c.in_ok-found.ensures.gap) c.args.told.now.gaps.items
+    c.add_gap.new.gaps.items c.in_ok-add_gap.ensures)
+    c.add_uncertain.ensures
+
+pub returns-clause-uncertain : goal.returns-clause-uncertain
+returns-clause-uncertain c =
+    let maker = c.args.maker.now in
+    let files = maker.package.now.files in
+    let known = c.args.options.now.known in
+    let option = c.args.option.now in
+    let uncertain = c.in_ok-found.found.uncertain in
+    on_ok_weaker c.add_uncertain.result
+    (one-uncertain files known maker.source maker.text.now c.one_uncertain_name_an_option.ensures option uncertain
+    (its-uncertain c.args.options.now.files files c.requires.options.0 known maker.source c.as_str-text.result.now
+    maker.text.now c.as_str-text.ensures.same option uncertain c.in_ok-found.ensures.uncertain)
+    c.args.told.now.uncertain.items c.add_uncertain.new.places.items)
+    c.add_uncertain.ensures

@@ -18,6 +18,13 @@ returns-in-Some-clause-planned c = rw c.in-Some.is c.option_occurrences.ensures.
 pub returns-in-Some-clause-gaps : goal.returns-in-Some-clause-gaps
 returns-in-Some-clause-gaps c = rw c.in-Some.is c.option_occurrences.ensures.gaps
 
+pub returns-in-Some-clause-uncertain : goal.returns-in-Some-clause-uncertain
+returns-in-Some-clause-uncertain c = rw c.in-Some.is c.option_occurrences.ensures.uncertain
+
+pub returns-in-None-clause-uncertain : goal.returns-in-None-clause-uncertain
+returns-in-None-clause-uncertain c =
+    rw (c.in-None.is, c.requires.certain) (λ place. (λ h. absurd (in_nothing place h), λ none. absurd none))
+
 pub returns-in-None-clause-grown : goal.returns-in-None-clause-grown
 returns-in-None-clause-grown c = grown_same c.args.texts.now
 

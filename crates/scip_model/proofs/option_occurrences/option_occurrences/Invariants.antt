@@ -1,5 +1,5 @@
 use Rattle.std.proofs.Common.{[]}
-use Rattle.scip_model.specs.Makers.{IsItsOptionGap, OccursByItsOption}
+use Rattle.scip_model.specs.Makers.{IsItsOptionGap, IsItsUncertainName, OccursByItsOption}
 use Rattle.scip_model.specs.Tables.Additions.{Adds, FromFront}
 use Rattle.scip_model.specs.Tables.KnownParts.{AreKnown}
 use Rattle.scip_model.specs.Tables.Plans.{AddsPlanned, Around, Grown}
@@ -11,5 +11,7 @@ invariant-loop-option l = record {
   known : AreKnown l.maker l.texts l.plan.known;
   added : (around : Around) → AddsPlanned around l.texts
       (FromFront (OccursByItsOption l.maker l.options.known) l.its_options l.option-index) [] l.plan.list.items;
-  gaps : Adds (FromFront (IsItsOptionGap l.maker l.options.known) l.its_options l.option-index) [] l.gaps.items;
+  gaps : Adds (FromFront (IsItsOptionGap l.maker l.options.known) l.its_options l.option-index) [] l.told.gaps.items;
+  uncertain : Adds (FromFront (IsItsUncertainName l.maker l.options.known) l.its_options l.option-index) []
+      l.told.uncertain.items;
 }

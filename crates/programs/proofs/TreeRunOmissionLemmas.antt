@@ -1,6 +1,6 @@
 -- What is said of an index, by what it lacks.
 use Rattle.std.proofs.Common.{◌≡◌, ℕ, suc, Bool, true, false, List, [], ◌∷◌, Option, Some, None, Result, Ok, Err}
-use Rattle.std.proofs.Common.{length, ◌==◌, ◌&&◌, map, refl, subst, sym}
+use Rattle.std.proofs.Common.{length, ◌==◌, ◌&&◌, refl, subst, sym}
 use Rattle.std.specs.Prelude.{IfSome}
 use Rattle.std.specs.Option.{option_map}
 use Rattle.std.proofs.lemmas.Option.{same_Some}

@@ -1,5 +1,5 @@
 -- Where the program `index` puts an index, and its report.
-use Rattle.std.specs.Prelude.{◌≡◌, ◌⊎◌, ℕ, Bool, true, false, List, [], ◌∷◌, Option, None, Some, Result, Ok, Err}
+use Rattle.std.specs.Prelude.{◌≡◌, ◌⊎◌, ℕ, Bool, true, false, List, [], Option, None, Some, Result, Ok, Err}
 use Rattle.std.specs.Prelude.{String, string_bytes, IfSome}
 use Rattle.std.specs.Global.{Global}
 use Rattle.std.specs.Option.{option_map}

@@ -1,4 +1,4 @@
-use Rattle.std.proofs.Common.{◌≡◌, map, refl, ℕ, List, Option}
+use Rattle.std.proofs.Common.{◌≡◌, refl, ℕ, List, Option}
 use Rattle.std.specs.Option.{option_map}
 use Rattle.std.specs.String.{string_bytes}
 use Rattle.streams.specs.Writers.{writing}

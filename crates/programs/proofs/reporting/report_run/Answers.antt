@@ -1,4 +1,4 @@
-use Rattle.std.proofs.Common.{◌∙◌, ap, map, not, refl, ℕ, List, Err, subst, sym}
+use Rattle.std.proofs.Common.{◌∙◌, ap, not, refl, ℕ, List, Err, subst, sym}
 use Rattle.std.proofs.lemmas.Result.{err_from_is_err_and}
 use Rattle.std.specs.Option.{option_map}
 use Rattle.std.specs.String.{string_bytes}

@@ -1,6 +1,6 @@
 use Rattle.std.specs.Option.{option_map}
 use Rattle.std.specs.String.{string_bytes}
-use Rattle.std.proofs.Common.{◌≡◌, ◌∙◌, ap, map, refl, subst, sym, ℕ, List, Option, Result}
+use Rattle.std.proofs.Common.{◌≡◌, ◌∙◌, ap, refl, subst, sym, ℕ, List, Option, Result}
 use Rattle.std.specs.Prelude.{IfErr}
 use Rattle.streams.specs.Readers.{reading}
 use Rattle.streams.specs.Writers.{writing}

@@ -15,6 +15,7 @@ from pair_trees import WELL_KNOWN, File, Tree, is_utf8
 
 BAD_LIST = re.compile(rb"\.list:\d+: (BadPath|NotUtf8)\n")
 OPTION = re.compile(rb"\boption \(?\.?(\w+)")
+COMMENT = re.compile(rb"(\"(?:\\.|[^\"\\\n])*\"|'(?:\\.|[^'\\\n])*')|//[^\n]*|/\*.*?\*/", re.DOTALL)
 
 
 def skip_refuses_nothing(room, tree, row, _):
@@ -118,6 +119,11 @@ def report_leads_to_files(room, tree, row, _):
     return None
 
 
+def uncommented(text):
+    """The text with spaces for its comments."""
+    return COMMENT.sub(lambda found: found[1] or re.sub(rb"[^\n]", b" ", found[0]), text)
+
+
 def options_are_named_or_told(room, tree, row, _):
     """The name of an option is named or told, since there is a file with the messages of options."""
     row = plain(spelled(row), "--only", "--positions", "--exclude", accept="all", options="link", faulty="skip",
@@ -127,7 +133,8 @@ def options_are_named_or_told(room, tree, row, _):
         return False
     told = {(line[2], int(line[3])) for line in done.told()[0] if line[3]}
     for path, document in documents(done.index):
-        text, below = source(tree, path, row), path[len(row["--at"][0].encode()) + 1 if "--at" in row else 0:]
+        text = uncommented(source(tree, path, row))
+        below = path[len(row["--at"][0].encode()) + 1 if "--at" in row else 0:]
         places = {place[:2] for place, _, _ in occurrences(document)}
         for found in OPTION.finditer(text):
             start = found.start(1)
@@ -164,12 +171,12 @@ def what_is_certain_stays(room, tree, row, _):
 
 
 def out_is_refused_if_read(room, tree, row, chance):
-    """OUT is refused as a source just if it was read: if the run is another one when nobody may read it. With a list, so
-    is one with the path of a file that was."""
+    """OUT is refused as a source just if it was read: if the run is another one when nobody may read it. With a list,
+    so is one with the path of a file that was. (A path with a control character is told as BadPath or Unreadable.)"""
     row = plain(row, faulty="skip")
     hidden = {path.split(b"/", 1)[1] for path in tree.unreadable()}
     files = sorted(path for path in tree.files if path.split(b"/", 1)[1] not in hidden)
-    if tree.links() or not files:
+    if tree.links() or not files or any(set(path) & set(range(32)) for path in files):
         return False
     below = [path.split(b"/", 1)[1] for path in files]
     files = [path for path in files if below.count(path.split(b"/", 1)[1]) > 1] or files

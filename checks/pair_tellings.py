@@ -194,13 +194,16 @@ def out_is_refused_if_read(room, tree, row, chance):
 
 def what_protoc_takes_is_good(room, tree, row, _):
     """Of a source that protoc takes nothing is told by --real, with the same folders, but of a file of another folder
-    with its path that can't be read."""
+    with its path that can't be read; and an option, if descriptor.proto can't be read."""
     if "--exclude" in row or tree.links() or not room.protoc:
         return False
     row = plain(row, "--accept", "--custom-options", "--sources", "--options", "--faulty", "--duplicates", real=(),
                 include=("inc", "--include", "more"))
     done = room.index(tree, but(row, "--include-package"))
-    told = {line[2].decode(): line[0].decode() for line in done.told()[0] if not line[0].endswith(b": Unreadable")} \
+    unread = (b": Unreadable",)
+    if any(path.endswith(b"/google/protobuf/descriptor.proto") for path in tree.unreadable()):
+        unread += (b": Option",)
+    told = {line[2].decode(): line[0].decode() for line in done.told()[0] if not line[0].endswith(unread)} \
         if done.status == 0 else {}
     for path in sorted(told):
         if os.path.exists(os.path.join(tree.at, "root", path)) and room.is_taken_by_protoc(tree, path):

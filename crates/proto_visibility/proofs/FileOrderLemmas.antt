@@ -1,20 +1,19 @@
 -- An order of files, and rows of places in it.
-use Rattle.std.proofs.Common.{◌≡◌, ◌↔◌, inl, inr, ℕ, ◌+◌, ◌<◌, ◌≤◌, List, [], ◌∷◌, ◌++◌, length, get_or}
+use Rattle.std.proofs.Common.{◌≡◌, ◌↔◌, ◌⊎◌, inl, inr, ℕ, ◌+◌, ◌<◌, ◌≤◌, zero, suc, List, [], ◌∷◌, ◌++◌, length, get_or}
 use Rattle.std.proofs.Common.{set, take, eqb, Option, Some, None, refl, ap, sym, ◌∙◌, subst, arith}
 use Rattle.std.specs.List.{Contains, IsDistinct, slice_get}
-use Rattle.std.specs.List.Sorted.{IsPermutation}
 use Rattle.std.proofs.lemmas.Bool.{cases_lt, eq-eqb, false≢true}
 use Rattle.std.proofs.lemmas.Option.{slice_get_within, slice_get-get_or, get_or_from_slice_get, same_Some}
 use Rattle.std.proofs.lemmas.List.{length-set, get_or-set_same, get_or-set_other, take_more}
-use Rattle.std.proofs.lemmas.List.Elements.{filter_map-append}
+use Rattle.std.proofs.lemmas.List.Elements.{All-append, All-cons, All-nil, Contains-append_cases, Contains-append_left}
+use Rattle.std.proofs.lemmas.List.Elements.{Contains-append_right, Contains-push, filter_map-append}
 use Rattle.std.proofs.lemmas.Map.Keys.{apart_from_distinct}
 use Rattle.proto_visibility.specs.declared.rows.Run.{Run}
-use Rattle.proto_visibility.specs.Tables.Rows.{numbers_in, IsIn, files_at, AreRanks}
-use Rattle.proto_visibility.proofs.RowRisingLemmas.{same_numbers}
+use Rattle.proto_visibility.specs.Tables.Rows.{numbers_in, IsIn, files_at, AreRanks, AreWhole, IsWith}
 use Rattle.proto_visibility.proofs.ImportTableLemmas.{kept_from, kept_if}
 use Rattle.proto_visibility.specs.Tables.Visits.{visit}
 use Rattle.proto_visibility.proofs.SeeingLemmas.{visits_keep}
-use Rattle.proto_visibility.proofs.RowRunLemmas.{in_runs_from, in_runs_if}
+use Rattle.proto_visibility.proofs.RowRunLemmas.{in_one, in_runs_from, in_runs_if, numbers_append}
 
 -- ---- a walk that finds all files
 
@@ -86,21 +85,6 @@ ranked_all files ranks count upto size all each ranked number rank = (
 
 -- ---- files at places
 
--- one more file by its place
-pub placed_more : (order places numbers : List ℕ) (index rank number : ℕ) → index < length numbers
-    → number ≡ get_or numbers index 0 → slice_get order rank ≡ Some number
-    → files_at order places ≡ take index numbers
-    → files_at order (places ++ rank ∷ []) ≡ take (index + 1) numbers
-placed_more order places numbers index rank number within is stands so_far =
-    filter_map-append (slice_get order) places (rank ∷ [])
-    ∙ (ap (λ xs. xs ++ files_at order (rank ∷ [])) so_far
-    ∙ (ap (λ xs. take index numbers ++ xs) (one_file order rank number stands)
-    ∙ (ap (λ n. take index numbers ++ n ∷ []) is ∙ sym (take_more numbers index 0 within))))
-  where
-    one_file : (files : List ℕ) (place file : ℕ) → slice_get files place ≡ Some file
-        → files_at files (place ∷ []) ≡ file ∷ []
-    one_file files place file e = rw e refl
-
 pub files_same : (order places others : List ℕ) → ((place : ℕ) → Contains places place ↔ Contains others place)
     → (number : ℕ) → Contains (files_at order places) number ↔ Contains (files_at order others) number
 files_same order places others same number = (
@@ -110,20 +94,141 @@ files_same order places others same number = (
       kept_if (slice_get order) places at.0 number ((same at.0).1 at.1) at.2),
 )
 
--- the runs of the places of these files, once the places are sorted
-pub found_by_runs : (order runs sorted places numbers : List ℕ)
-    → ((place : ℕ) → Contains runs place ↔ Contains sorted place) → IsPermutation places sorted
-    → files_at order places ≡ numbers
-    → (number : ℕ) → Contains (files_at order runs) number ↔ Contains numbers number
-found_by_runs order runs sorted places numbers same moved are number =
-    let by = files_same order runs places
-    (λ place. (
-      λ there. (same_numbers places sorted moved place).0 ((same place).0 there),
-      λ there. (same place).1 ((same_numbers places sorted moved place).1 there),
-    )) number in (
-      λ there. subst (λ xs. Contains xs number) are (by.0 there),
-      λ there. by.1 (subst (λ xs. Contains xs number) (sym are) there),
+-- ---- runs with more files
+
+pub files_appended : (order : List ℕ) (runs more : List Run) (file : ℕ)
+    → Contains (files_at order (numbers_in (runs ++ more))) file
+    ↔ (Contains (files_at order (numbers_in runs)) file ⊎ Contains (files_at order (numbers_in more)) file)
+files_appended order runs more file =
+    let parts : files_at order (numbers_in (runs ++ more))
+    ≡ files_at order (numbers_in runs) ++ files_at order (numbers_in more) =
+    ap (files_at order) (numbers_append runs more)
+    ∙ filter_map-append (slice_get order) (numbers_in runs) (numbers_in more) in (
+      λ there. Contains-append_cases (files_at order (numbers_in runs)) (files_at order (numbers_in more)) file
+          (subst (λ (xs : List ℕ). Contains xs file) parts there),
+      λ there. subst (λ (xs : List ℕ). Contains xs file) (sym parts) (elim there [
+        | inl old ↦ Contains-append_left (files_at order (numbers_in runs)) (files_at order (numbers_in more)) file old
+        | inr new ↦ Contains-append_right (files_at order (numbers_in runs)) (files_at order (numbers_in more)) file new
+      ]),
     )
+
+-- runs with others, which have just these files
+pub with_runs : (order : List ℕ) (old more new : List Run) (More : ℕ → Type 0) → new ≡ old ++ more → AreWhole more
+    → ((file : ℕ) → Contains (files_at order (numbers_in more)) file ↔ More file) → IsWith order old new More
+with_runs order old more new More is whole are =
+    subst (λ (runs : List Run). IsWith order old runs More) (sym is) (record {
+      has = λ file. (
+        λ there. elim ((files_appended order old more file).0 there) [
+          | inl before ↦ inl before
+          | inr here ↦ inr ((are file).0 here)
+        ],
+        λ there. (files_appended order old more file).1 (elim there [
+          | inl before ↦ inl before
+          | inr here ↦ inr ((are file).1 here)
+        ]),
+      );
+      whole = λ before. All-append (λ (run : Run). run.first ≤ run.last) old more before whole;
+    })
+
+-- runs with the place of one file
+pub with_one : (order : List ℕ) (old new : List Run) (place number : ℕ) → slice_get order place ≡ Some number
+    → new ≡ old ++ (record { first = place; last = place }) ∷ [] → IsWith order old new (λ file. file ≡ number)
+with_one order old new place number stands is =
+    with_runs order old (one ∷ []) new (λ file. file ≡ number) is
+    (All-cons (λ (run : Run). run.first ≤ run.last) one [] (omega arith)
+    (All-nil (λ (run : Run). run.first ≤ run.last)))
+    (λ file. (
+      λ there. (
+          let at = kept_from (slice_get order) (numbers_in (one ∷ [])) file there in
+          let here = in_one one at.0 at.1 in
+          let same : at.0 ≡ place = omega (arith, here.0, here.1) in
+          same_Some file number (sym at.2 ∙ (ap (slice_get order) same ∙ stands))
+          ),
+      λ same. kept_if (slice_get order) (numbers_in (one ∷ [])) place file
+          (in_runs_if (one ∷ []) 0 one place refl (omega arith, omega arith)) (stands ∙ ap Some (sym same)),
+    ))
+  where
+    one : Run
+    one = record { first = place; last = place }
+
+pub with_none : (order : List ℕ) (runs : List Run) (More : ℕ → Type 0) → ((file : ℕ) → More file → ⊥)
+    → IsWith order runs runs More
+with_none order runs More none = record {
+  has = λ file. (
+    λ there. inl there,
+    λ there. elim there [
+      | inl old ↦ old
+      | inr new ↦ absurd (none file new)
+    ],
+  );
+  whole = λ before. before;
+}
+
+-- first some files more, and then others
+pub with_both : (order : List ℕ) (first second third : List Run) (More Others Both : ℕ → Type 0)
+    → IsWith order first second More → IsWith order second third Others
+    → ((file : ℕ) → Both file ↔ (More file ⊎ Others file)) → IsWith order first third Both
+with_both order first second third More Others Both a b are = record {
+  has = λ file. (
+    λ there. elim ((b.has file).0 there) [
+      | inl old ↦ elim ((a.has file).0 old) [
+        | inl before ↦ inl before
+        | inr more ↦ inr ((are file).1 (inl more))
+      ]
+      | inr other ↦ inr ((are file).1 (inr other))
+    ],
+    λ there. elim there [
+      | inl before ↦ (b.has file).1 (inl ((a.has file).1 (inl before)))
+      | inr both ↦ elim ((are file).0 both) [
+        | inl more ↦ (b.has file).1 (inl ((a.has file).1 (inr more)))
+        | inr other ↦ (b.has file).1 (inr other)
+      ]
+    ],
+  );
+  whole = λ before. b.whole (a.whole before);
+}
+
+-- none, and then these
+pub with_all : (order : List ℕ) (none runs : List Run) (row : List ℕ) (These : ℕ → Type 0) → none ≡ []
+    → IsWith order none runs These → ((number : ℕ) → Contains row number ↔ Contains (numbers_in runs) number)
+    → (file : ℕ) → Contains (files_at order row) file ↔ These file
+with_all order none runs row These empty are same file = (
+  λ there. elim ((are.has file).0 ((files_same order row (numbers_in runs) same file).0 there)) [
+    | inl old ↦ absurd (nothing (subst (λ (rs : List Run). Contains (files_at order (numbers_in rs)) file) empty old))
+    | inr is ↦ is
+  ],
+  λ is. (files_same order row (numbers_in runs) same file).1 ((are.has file).1 (inr is)),
+)
+  where
+    nothing : Contains (files_at order (numbers_in [])) file → ⊥
+    nothing there = omega (arith, there.1)
+
+pub all_whole : (order : List ℕ) (none runs : List Run) (These : ℕ → Type 0) → none ≡ [] → IsWith order none runs These
+    → AreWhole runs
+all_whole order none runs These empty are =
+    are.whole (subst AreWhole (sym empty) (All-nil (λ (run : Run). run.first ≤ run.last)))
+
+-- one of the first so many, and the next one
+pub first_and_next : (numbers : List ℕ) (index next file : ℕ) → index < length numbers → next ≡ get_or numbers index 0
+    → Contains (take (index + 1) numbers) file ↔ (Contains (take index numbers) file ⊎ (file ≡ next))
+first_and_next numbers index next file within is =
+    let more : take (index + 1) numbers ≡ take index numbers ++ next ∷ [] =
+    take_more numbers index 0 within ∙ ap (λ n. take index numbers ++ n ∷ []) (sym is) in (
+      λ there. elim (Contains-append_cases (take index numbers) (next ∷ []) file
+          (subst (λ (xs : List ℕ). Contains xs file) more there)) [
+            | inl old ↦ inl old
+            | inr last ↦ inr (sym (only next file last))
+          ],
+      λ there. subst (λ (xs : List ℕ). Contains xs file) (sym more) (elim there [
+        | inl old ↦ Contains-append_left (take index numbers) (next ∷ []) file old
+        | inr same ↦ subst (Contains (take index numbers ++ next ∷ [])) (sym same)
+            (Contains-push (take index numbers) next)
+      ]),
+    )
+  where
+    only : (x y : ℕ) → Contains (x ∷ []) y → x ≡ y
+    only x y (zero, h, e) = e
+    only x y (suc k, h, e) = absurd (omega arith)
 
 -- ---- a file in a row
 

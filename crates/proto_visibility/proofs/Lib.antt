@@ -27,6 +27,8 @@ pub mod KeptAmongLemmas
 pub mod KeptLemmas
 -- The order in which files are taken: sources first, and each kind by number
 pub mod KeptOrderLemmas
+-- What public imports lead to from files
+pub mod LeadingLemmas
 -- Why files can't be linked, for functions that refuse them
 pub mod LinkedRefusalRules
 -- What a full name names in one file

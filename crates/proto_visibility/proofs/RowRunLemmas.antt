@@ -3,17 +3,18 @@ use Rattle.std.proofs.Common.{◌≡◌, ◌↔◌, ◌⊎◌, inl, inr, ℕ, �
 use Rattle.std.proofs.Common.{◌++◌, length, get_or, take, drop, Some, None, ltb, leb, refl, ap, sym, ◌∙◌, subst, arith}
 use Rattle.std.proofs.Common.{IsTrue}
 use Rattle.std.specs.List.{Contains, slice_get, range_with_len}
-use Rattle.std.specs.List.Sorted.{IsNonDecreasing, IsPartitionPoint}
+use Rattle.std.specs.List.Sorted.{IsPartitionPoint, IsPermutation}
 use Rattle.std.proofs.lemmas.Bool.{cases_lt, ltb-true, ltb-false, leb-true}
 use Rattle.std.proofs.lemmas.Bool.Decides.{nat_tests}
 use Rattle.std.proofs.lemmas.Option.{slice_get_within, get_or_from_slice_get, slice_get-get_or, same_Some}
-use Rattle.std.proofs.lemmas.List.{append_assoc, get_or_default, take_all}
+use Rattle.std.proofs.lemmas.List.{append_assoc, get_or_default, take_all, take_more}
 use Rattle.std.proofs.lemmas.List.FromFn.{length-range_with_len, get_or-range_with_len}
-use Rattle.std.proofs.lemmas.List.Elements.{All-nil, Contains-append_left, Contains-append_right}
-use Rattle.std.proofs.lemmas.List.Elements.{Contains-append_cases, Contains-get_or}
-use Rattle.std.proofs.lemmas.List.Sorted.{IsNonDecreasingBy-short, IsNonDecreasingBy-push}
+use Rattle.std.proofs.lemmas.List.Elements.{All-contains, All-nil, All-push, Contains-append_left}
+use Rattle.std.proofs.lemmas.List.Elements.{Contains-append_cases, Contains-append_right, Contains-get_or}
+use Rattle.std.proofs.lemmas.List.Sorted.{Contains-permutation, IsNonDecreasingBy-short, IsNonDecreasingBy-push}
+use Rattle.std.proofs.lemmas.List.Sorted.{IsPermutation-sym}
 use Rattle.proto_visibility.specs.declared.rows.Run.{Run}
-use Rattle.proto_visibility.specs.Tables.Rows.{numbers_in, IsIn, HasNumber, AreInOrder, AreBefore}
+use Rattle.proto_visibility.specs.Tables.Rows.{numbers_in, IsIn, HasNumber, AreWhole, AreInOrder, AreBefore}
 
 -- ---- the numbers of runs
 
@@ -62,13 +63,13 @@ in_runs_if (first ∷ runs) (suc k) run number stands is =
     Contains-append_right (range_with_len first.first (first.last + 1 - first.first)) (numbers_in runs) number
     (in_runs_if runs k run number stands is)
 
-numbers_append : (runs others : List Run) → numbers_in (runs ++ others) ≡ numbers_in runs ++ numbers_in others
+pub numbers_append : (runs others : List Run) → numbers_in (runs ++ others) ≡ numbers_in runs ++ numbers_in others
 numbers_append [] others = refl
 numbers_append (run ∷ runs) others =
     ap (λ xs. range_with_len run.first (run.last + 1 - run.first) ++ xs) (numbers_append runs others)
     ∙ sym (append_assoc (range_with_len run.first (run.last + 1 - run.first)) (numbers_in runs) (numbers_in others))
 
-in_one : (run : Run) (number : ℕ) → Contains (numbers_in (run ∷ [])) number → IsIn run number
+pub in_one : (run : Run) (number : ℕ) → Contains (numbers_in (run ∷ [])) number → IsIn run number
 in_one run number there =
     elim (Contains-append_cases (range_with_len run.first (run.last + 1 - run.first)) [] number there) [
       | inl here ↦ run_from run number here
@@ -92,27 +93,14 @@ in_pushed runs run number =
       ]),
     )
 
--- ---- a run with its next number
-
-pub far_numbers : (runs : List Run) (run : Run) (number : ℕ) (other : ℕ)
-    → HasNumber (runs ++ run ∷ []) (record { first = number; last = number }) other
-    ↔ (HasNumber runs run other ⊎ (other ≡ number))
-far_numbers runs run number other = (
-  λ has. elim has [
-    | inl before ↦ inl ((in_pushed runs run other).0 before)
-    | inr is ↦ inr (omega (arith, is.0, is.1))
-  ],
-  λ has. elim has [
-    | inl before ↦ inl ((in_pushed runs run other).1 before)
-    | inr same ↦ inr (omega (arith, same), omega (arith, same))
-  ],
-)
+-- ---- runs in order
 
 pub pushed_order : (runs : List Run) (run : Run) → AreBefore runs run.first → run.first ≤ run.last
     → AreInOrder (runs ++ run ∷ [])
 pushed_order runs run before whole = record {
+  whole = All-push (λ (r : Run). r.first ≤ r.last) runs run before.order.whole whole;
   firsts = IsNonDecreasingBy-push (λ (r : Run). r.first) runs run before.order.firsts
-      (λ d some. let w = before.whole (length runs - 1) d (omega (arith, some)) in
+      (λ d some. let w = before.order.whole (length runs - 1) d (omega (arith, some)) in
       let e = before.ended (length runs - 1) d (omega (arith, some)) in omega (arith, w, e));
   lasts = IsNonDecreasingBy-push (λ (r : Run). r.last) runs run before.order.lasts
       (λ d some. let e = before.ended (length runs - 1) d (omega (arith, some)) in omega (arith, e, whole));
@@ -121,92 +109,163 @@ pushed_order runs run before whole = record {
 pub none_order : (runs : List Run) → runs ≡ [] → AreInOrder runs
 none_order runs empty =
     subst AreInOrder (sym empty) (record {
+      whole = All-nil (λ (r : Run). r.first ≤ r.last);
       firsts = IsNonDecreasingBy-short (λ (r : Run). r.first) [] (omega arith);
       lasts = IsNonDecreasingBy-short (λ (r : Run). r.last) [] (omega arith);
     })
 
--- ---- numbers that don't fall, taken one by one
+-- the first run alone comes before none
+pub first_before : (run : Run) (runs : List Run) → runs ≡ [] → AreBefore runs run.first
+first_before run runs empty =
+    subst (λ (rs : List Run). AreBefore rs run.first) (sym empty) (record {
+      order = none_order [] refl;
+      ended = All-nil (λ (r : Run). r.last ≤ run.first);
+    })
 
--- the runs and the last one have the numbers up to the one with this index
-pub record AreTaken (runs : List Run) (run : Run) (numbers : List ℕ) (index : ℕ) : Type 0 where
-  pub whole : run.first ≤ run.last
-  pub last : run.last ≡ get_or numbers index 0
-  pub before : AreBefore runs run.first
-  pub sound : (other : ℕ) → HasNumber runs run other → Contains numbers other
-  pub taken : (k : ℕ) → k ≤ index → k < length numbers → HasNumber runs run (get_or numbers k 0)
-
-pub taken_first : (runs : List Run) (run : Run) (first : ℕ) (others : List ℕ) → runs ≡ []
-    → run ≡ record { first = first; last = first } → AreTaken runs run (first ∷ others) 0
-taken_first runs run first others empty is =
-    subst (λ rs. AreTaken rs run (first ∷ others) 0) (sym empty)
-    (subst (λ (r : Run). AreTaken [] r (first ∷ others) 0) (sym is) (record {
-      whole = omega arith;
-      last = refl;
-      before = record {
-        order = none_order [] refl;
-        whole = All-nil (λ (r : Run). r.first ≤ r.last);
-        ended = All-nil (λ (r : Run). r.last ≤ first);
-      };
-      sound = λ other has. elim has [
-        | inl none ↦ absurd (omega (arith, none.1))
-        | inr of ↦ (let same : first ≡ other = omega (arith, of.0, of.1) in
-            subst (Contains (first ∷ others)) same (Contains-append_left (first ∷ []) others first
-            (zero, omega arith, refl)))
-      ];
-      taken = λ k few within. (let at : k ≡ 0 = omega (arith, few) in
-          subst (λ n. HasNumber [] (record { first = first; last = first }) (get_or (first ∷ others) n 0)) (sym at)
-          (inr (omega arith, omega arith)));
-    }))
-
--- the next number isn't before the last one
-pub next_behind : (runs : List Run) (run : Run) (numbers : List ℕ) (index number : ℕ) → IsNonDecreasing numbers
-    → AreTaken runs run numbers index → index + 1 < length numbers → number ≡ get_or numbers (index + 1) 0
-    → run.last ≤ number
-next_behind runs run numbers index number order taken within is =
-    let rises = order index (index + 1) 0 (omega arith) within in
-    let last = taken.last in omega (arith, rises, last, is)
-
-pub taken_more : (runs others : List Run) (run next : Run) (numbers : List ℕ) (index number : ℕ)
-    → AreTaken runs run numbers index → index + 1 < length numbers → number ≡ get_or numbers (index + 1) 0
-    → ((other : ℕ) → HasNumber others next other ↔ (HasNumber runs run other ⊎ (other ≡ number)))
-    → (AreBefore runs run.first → AreBefore others next.first) → next.first ≤ next.last → next.last ≡ number
-    → AreTaken others next numbers (index + 1)
-taken_more runs others run next numbers index number so_far within is has before whole last = record {
-  whole = whole;
-  last = last ∙ is;
-  before = before so_far.before;
-  sound = λ other there. elim ((has other).0 there) [
-    | inl old ↦ so_far.sound other old
-    | inr same ↦ subst (Contains numbers) (sym (same ∙ is)) (Contains-get_or numbers (index + 1) 0 within)
-  ];
-  taken = λ k few inside. elim (cases_lt index k) [
-    | inl new ↦ (let at : k ≡ index + 1 = omega (arith, few, new) in
-        (has (get_or numbers k 0)).1 (inr (ap (λ n. get_or numbers n 0) at ∙ sym is)))
-    | inr old ↦ (has (get_or numbers k 0)).1 (inl (so_far.taken k old inside))
-  ];
+-- one more run that begins behind their ends
+pub pushed_before : (runs : List Run) (run : Run) (number : ℕ) → AreBefore runs run.first → run.first ≤ run.last
+    → run.last ≤ number → AreBefore (runs ++ run ∷ []) number
+pushed_before runs run number before whole ends = record {
+  order = pushed_order runs run before whole;
+  ended = All-push (λ (r : Run). r.last ≤ number) runs run
+      (λ k d h. (let e = before.ended k d h in omega (arith, e, whole, ends))) ends;
 }
 
-pub taken_all : (runs : List Run) (run : Run) (numbers : List ℕ) (index : ℕ) → AreTaken runs run numbers index
-    → length numbers ≤ index + 1 → (number : ℕ)
-    → Contains (numbers_in (runs ++ run ∷ [])) number ↔ Contains numbers number
-taken_all runs run numbers index all few number = (
-  λ there. all.sound number ((in_pushed runs run number).0 there),
-  λ there. (in_pushed runs run number).1
-      (subst (HasNumber runs run) (get_or_default numbers there.0 0 number there.1 ∙ there.2)
-      (all.taken there.0 (omega (arith, there.1, few)) there.1)),
+-- ---- a run with a next one
+
+pub within_run : (runs : List Run) (run next : Run) → run.first ≤ next.first → next.last ≤ run.last → (other : ℕ)
+    → HasNumber runs run other ↔ (HasNumber runs run other ⊎ IsIn next other)
+within_run runs run next behind inside other = (
+  λ has. inl has,
+  λ has. elim has [
+    | inl old ↦ old
+    | inr is ↦ inr (omega (arith, is.0, behind), omega (arith, is.1, inside))
+  ],
 )
 
--- a list of at least one is its first item before the others
-pub head_tail : (numbers : List ℕ) (d : ℕ) → 1 ≤ length numbers
-    → get_or numbers 0 d ∷ take (length numbers - 1) (drop 1 numbers) ≡ numbers
-head_tail [] d h = absurd (omega (arith, h))
-head_tail (number ∷ numbers) d h =
-    ap (λ xs. number ∷ xs) (take_all (length (number ∷ numbers) - 1) numbers (omega arith))
+pub longer_run : (runs : List Run) (run next : Run) → next.first ≤ next.last → run.first ≤ next.first
+    → run.last < next.last → next.first - run.last ≤ 1 → (other : ℕ)
+    → HasNumber runs (record { first = run.first; last = next.last }) other
+    ↔ (HasNumber runs run other ⊎ IsIn next other)
+longer_run runs run next whole behind past near other = (
+  λ has. elim has [
+    | inl old ↦ inl (inl old)
+    | inr is ↦ elim (cases_lt run.last other) [
+      | inl late ↦ inr (omega (arith, late, near), is.1)
+      | inr early ↦ inl (inr (is.0, early))
+    ]
+  ],
+  λ has. elim has [
+    | inl before ↦ elim before [
+      | inl old ↦ inl old
+      | inr is ↦ inr (is.0, omega (arith, is.1, past))
+    ]
+    | inr is ↦ inr (omega (arith, is.0, behind), is.1)
+  ],
+)
 
-pub behind_first : (first : ℕ) (others : List ℕ) (index : ℕ)
-    → get_or others index 0 ≡ get_or (first ∷ others) (index + 1) 0
-behind_first first others index =
-    let next : index + 1 ≡ suc index = omega arith in ap (λ n. get_or (first ∷ others) n 0) (sym next)
+-- the next one is behind a run that is kept
+pub other_run : (runs : List Run) (run next : Run) (other : ℕ)
+    → HasNumber (runs ++ run ∷ []) next other ↔ (HasNumber runs run other ⊎ IsIn next other)
+other_run runs run next other = (
+  λ has. elim has [
+    | inl before ↦ inl ((in_pushed runs run other).0 before)
+    | inr is ↦ inr is
+  ],
+  λ has. elim has [
+    | inl before ↦ inl ((in_pushed runs run other).1 before)
+    | inr is ↦ inr is
+  ],
+)
+
+-- ---- runs that begin one behind the other, taken one by one
+
+-- the runs and the last one have the numbers of those up to the one with this index
+pub record AreTaken (runs : List Run) (run : Run) (all : List Run) (index : ℕ) : Type 0 where
+  pub whole : run.first ≤ run.last
+  pub behind : (d : Run) → run.first ≤ (get_or all index d).first
+  pub before : AreBefore runs run.first
+  pub has : (other : ℕ) → HasNumber runs run other ↔ Contains (numbers_in (take (index + 1) all)) other
+
+pub taken_first : (runs : List Run) (first : Run) (others : List Run) → runs ≡ [] → AreWhole (first ∷ others)
+    → AreTaken runs first (first ∷ others) 0
+taken_first runs first others empty whole = record {
+  whole = whole 0 first (omega arith);
+  behind = λ d. omega arith;
+  before = first_before first runs empty;
+  has = λ other. subst (λ (rs : List Run). HasNumber rs first other ↔ Contains (numbers_in (first ∷ [])) other)
+      (sym empty) (
+        λ has. elim has [
+          | inl none ↦ absurd (omega (arith, none.1))
+          | inr is ↦ in_runs_if (first ∷ []) zero first other refl is
+        ],
+        λ there. inr (in_one first other there),
+      );
+}
+
+pub taken_more : (runs others : List Run) (run last next : Run) (all : List Run) (index : ℕ)
+    → AreTaken runs run all index → index + 1 < length all → next ≡ get_or all (index + 1) next
+    → ((other : ℕ) → HasNumber others last other ↔ (HasNumber runs run other ⊎ IsIn next other))
+    → (AreBefore runs run.first → AreBefore others last.first) → last.first ≤ last.last → last.first ≤ next.first
+    → AreTaken others last all (index + 1)
+taken_more runs others run last next all index so_far within is has before whole behind = record {
+  whole = whole;
+  behind = λ d. (let at = ap (λ (r : Run). r.first) (is ∙ get_or_default all (index + 1) next d within) in
+      omega (arith, behind, at));
+  before = before so_far.before;
+  has = λ other. (
+      let front = take (index + 1) all in
+      let more : take (index + 1 + 1) all ≡ front ++ next ∷ [] =
+      take_more all (index + 1) next within ∙ ap (λ (r : Run). front ++ r ∷ []) (sym is) in
+      subst (λ (rs : List Run). HasNumber others last other ↔ Contains (numbers_in rs) other) (sym more) (
+        λ there. (in_pushed front next other).1 (elim ((has other).0 there) [
+          | inl old ↦ inl ((so_far.has other).0 old)
+          | inr new ↦ inr new
+        ]),
+        λ there. (has other).1 (elim ((in_pushed front next other).0 there) [
+          | inl old ↦ inl ((so_far.has other).1 old)
+          | inr new ↦ inr new
+        ]),
+      ));
+}
+
+pub taken_all : (runs : List Run) (run : Run) (all : List Run) (index : ℕ) → AreTaken runs run all index
+    → length all ≤ index + 1 → (number : ℕ)
+    → Contains (numbers_in (runs ++ run ∷ [])) number ↔ Contains (numbers_in all) number
+taken_all runs run all index so_far few number =
+    subst (λ (rs : List Run). Contains (numbers_in (runs ++ run ∷ [])) number ↔ Contains (numbers_in rs) number)
+    (take_all (index + 1) all few) (
+      λ there. (so_far.has number).0 ((in_pushed runs run number).0 there),
+      λ there. (in_pushed runs run number).1 ((so_far.has number).1 there),
+    )
+
+-- a list of at least one is its first item before the others
+pub head_tail : {X : Type 0} (xs : List X) (d : X) → 1 ≤ length xs
+    → get_or xs 0 d ∷ take (length xs - 1) (drop 1 xs) ≡ xs
+head_tail [] d h = absurd (omega (arith, h))
+head_tail (x ∷ xs) d h = ap (λ ys. x ∷ ys) (take_all (length (x ∷ xs) - 1) xs (omega arith))
+
+pub behind_first : {X : Type 0} (first : X) (others : List X) (index : ℕ) (d : X)
+    → get_or others index d ≡ get_or (first ∷ others) (index + 1) d
+behind_first first others index d =
+    let next : index + 1 ≡ suc index = omega arith in ap (λ n. get_or (first ∷ others) n d) (sym next)
+
+pub moved_whole : (runs others : List Run) → IsPermutation runs others → AreWhole runs → AreWhole others
+moved_whole runs others moved whole = λ k d inside.
+    All-contains (λ (r : Run). r.first ≤ r.last) runs (get_or others k d) whole
+    (Contains-permutation others runs (get_or others k d) (IsPermutation-sym runs others moved)
+    (Contains-get_or others k d inside))
+
+-- a run of each of these runs is in the others
+pub moved_numbers : (runs others : List Run) → IsPermutation runs others → (number : ℕ)
+    → Contains (numbers_in others) number → Contains (numbers_in runs) number
+moved_numbers runs others moved number there =
+    let its = in_runs_from others number there in
+    let within = slice_get_within others its.0 its.1 its.2 in
+    let held : Contains others its.1 = (its.0, within, get_or_from_slice_get others its.0 its.1 its.1 its.2) in
+    let old = Contains-permutation others runs its.1 (IsPermutation-sym runs others moved) held in
+    in_runs_if runs old.0 its.1 number
+    (slice_get-get_or runs old.0 its.1 old.1 ∙ ap Some old.2) its.3
 
 -- ---- a search by halves
 

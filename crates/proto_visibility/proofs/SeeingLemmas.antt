@@ -198,7 +198,7 @@ visits_append found (number ∷ numbers) more = visits_append (visit found numbe
 
 -- ---- where a search begins
 
-leads_see : {I : ℕ → Bool → ℕ → Type 0} {a b : ℕ} → LeadsTo I a b → SeesBy I a b
+pub leads_see : {I : ℕ → Bool → ℕ → Type 0} {a b : ℕ} → LeadsTo I a b → SeesBy I a b
 leads_see at_once = itself
 leads_see (through step rest) = import step rest
 

@@ -2,6 +2,7 @@
 -- what files import, and which each one sees
 pub mod ImportTables
 pub mod Rows
+pub mod Leading
 pub mod Visits
 -- where sources have the messages of their options
 pub mod OptionTables

@@ -23,7 +23,7 @@ ghost use Rattle.std.specs.Prelude.{
 ghost use Rattle.std.specs.List.{slice_get, list_any, IsDistinct};
 ghost use Rattle.std.specs.List.Sorted.{IsNonDecreasing};
 ghost use Rattle.proto_visibility.specs.Tables.ImportTables.{AreWithin};
-ghost use Rattle.proto_visibility.specs.Tables.Rows.{IsIn, AreRanks, files_at};
+ghost use Rattle.proto_visibility.specs.Tables.Rows.{IsIn, IsWith, AreRanks};
 
 use crate::import_table::Steps;
 use crate::lookup::stands_among;
@@ -32,11 +32,13 @@ use crate::search::Search;
 use std::alloc::{AllocError, Global};
 use std::marker::Model;
 
-/// All files in an order, and the place of each there. Contracts see the list of the files.
+/// All files in an order, and the place of each there; and in the order in which a walk was done with them. Contracts
+/// see the list of the files.
 #[derive(Drop)]
 pub(crate) struct FileOrder {
     files: Vec<usize>,
     ranks: Vec<usize>,
+    finished: Vec<usize>,
 }
 
 impl Model for FileOrder {
@@ -57,10 +59,15 @@ impl FileOrder {
         ensures { IfOk result (λ order. (number : ℕ) → number < length table.now → Contains order number) }
     {
         let mut search = Search::new(alloc, table.len())?;
-        walk(alloc, &mut search, table)?;
+        let mut finished = Vec::with_capacity(alloc, table.len())?;
+        walk(alloc, &mut search, &mut finished, table)?;
         let files = Vec::from_slice(alloc, search.found())?;
         let ranks = ranks_of(alloc, table.len(), files.as_slice())?;
-        Ok(FileOrder { files, ranks })
+        Ok(FileOrder {
+            files,
+            ranks,
+            finished,
+        })
     }
 
     /// The place of a file.
@@ -70,20 +77,34 @@ impl FileOrder {
         number_at(self.ranks.as_slice(), number)
     }
 
-    /// The places of these files.
-    pub(crate) fn places_of(
-        &self,
-        alloc: Global,
-        numbers: &[usize],
-    ) -> Result<Vec<usize>, AllocError>
-        requires { All (Contains self.now) numbers.now }
-        ensures { IfOk result (λ places. files_at self.now places.items ≡ numbers.now) }
+    /// The files in the order in which the walk was done with them: a file comes behind those that it imports publicly,
+    /// unless these lead back to it.
+    pub(crate) fn finished(&self) -> &[usize] {
+        self.finished.as_slice()
+    }
+
+    /// Adds the place of a file to runs.
+    pub(crate) fn add_file(&self, runs: &mut Vec<Run>, number: usize) -> Result<(), AllocError>
+        requires { Contains self.now number }
+        ensures { OnOk result (IsWith self.now runs.old.items runs.new.items (λ file. file ≡ number)) }
     {
-        let mut places = Vec::with_capacity(alloc, numbers.len())?;
+        let place = self.rank_of(number).unwrap();
+        runs.push(Run {
+            first: place,
+            last: place,
+        })?;
+        Ok(())
+    }
+
+    /// Adds the places of these files.
+    pub(crate) fn add_files(&self, runs: &mut Vec<Run>, numbers: &[usize]) -> Result<(), AllocError>
+        requires { All (Contains self.now) numbers.now }
+        ensures { OnOk result (IsWith self.now runs.old.items runs.new.items (Contains numbers.now)) }
+    {
         for number in numbers {
-            places.push_reserved(self.rank_of(*number).unwrap());
+            self.add_file(runs, *number)?;
         }
-        Ok(places)
+        Ok(())
     }
 
     /// A file at a place of a run that is among these numbers, which don't fall.
@@ -164,15 +185,20 @@ struct Turn {
     done: usize,
 }
 
-/// Finds all files.
-fn walk(alloc: Global, search: &mut Search, table: &[Steps]) -> Result<(), AllocError>
+/// Finds all files, and lists each when what its public imports lead to is found.
+fn walk(
+    alloc: Global,
+    search: &mut Search,
+    finished: &mut Vec<usize>,
+    table: &[Steps],
+) -> Result<(), AllocError>
     requires within { AreWithin table.now }
     requires files { search.old.files ≡ length table.now }
     ensures files { OnOk result (search.new.files ≡ search.old.files) }
     ensures found { OnOk result ((number : ℕ) → number < length table.now → Contains search.new.numbers number) }
 {
     for file in 0..table.len() {
-        walk_from(alloc, search, table, file)?;
+        walk_from(alloc, search, finished, table, file)?;
     }
     Ok(())
 }
@@ -181,6 +207,7 @@ fn walk(alloc: Global, search: &mut Search, table: &[Steps]) -> Result<(), Alloc
 fn walk_from(
     alloc: Global,
     search: &mut Search,
+    finished: &mut Vec<usize>,
     table: &[Steps],
     file: usize,
 ) -> Result<(), AllocError>
@@ -196,15 +223,17 @@ fn walk_from(
     let mut turns = Vec::new(alloc);
     turns.push(Turn { file, done: 0 })?;
     while let Some(turn) = turns.pop() {
-        take_turn(search, &mut turns, table, turn)?;
+        take_turn(search, &mut turns, finished, table, turn)?;
     }
     Ok(())
 }
 
-/// Goes on to the first public step of a file that is neither done nor found, and comes back to the file after it.
+/// Goes on to the first public step of a file that is neither done nor found, and comes back to the file after it. If
+/// there is none, the file is listed.
 fn take_turn(
     search: &mut Search,
     turns: &mut Vec<Turn>,
+    finished: &mut Vec<usize>,
     table: &[Steps],
     turn: Turn,
 ) -> Result<(), AllocError>
@@ -221,11 +250,16 @@ fn take_turn(
             let public = steps.public.as_slice();
             match search.first_new(public, turn.done) {
                 Some(index) => go_on(search, turns, turn.file, index, public[index]),
-                None => Ok(()),
+                None => list(finished, turn.file),
             }
         }
         None => Ok(()),
     }
+}
+
+/// Lists a file.
+fn list(finished: &mut Vec<usize>, file: usize) -> Result<(), AllocError> {
+    Ok(finished.push(file)?)
 }
 
 /// Finds the next file, which is the step of a file with this index.

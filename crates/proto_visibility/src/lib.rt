@@ -6,6 +6,7 @@ mod absent;
 mod backward;
 mod files;
 mod import_table;
+mod leading;
 mod options;
 mod reaching;
 mod search;

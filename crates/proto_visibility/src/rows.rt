@@ -2,8 +2,8 @@
 
 ghost use Rattle.std.specs.Prelude.{ℕ, ◌≡◌, ◌↔◌, IsTrue, IfOk, Contains, vec_len, ◌==◌, ◌≤◌, ◌⊎◌, ◌∷◌, MatchOption};
 ghost use Rattle.std.specs.List.{IsDistinct, slice_get};
-ghost use Rattle.std.specs.List.Sorted.{IsStrictlyIncreasing, IsNonDecreasing};
-ghost use Rattle.proto_visibility.specs.Tables.Rows.{numbers_in, HasNumber, AreInOrder, AreBefore};
+ghost use Rattle.std.specs.List.Sorted.{IsStrictlyIncreasing, IsNonDecreasing, IsNonDecreasingBy};
+ghost use Rattle.proto_visibility.specs.Tables.Rows.{numbers_in, HasNumber, IsIn, AreWhole, AreInOrder, AreBefore};
 
 use crate::file_order::FileOrder;
 use std::alloc::{AllocError, Global};
@@ -60,7 +60,7 @@ pub(crate) struct Run {
     pub(crate) last: usize,
 }
 
-/// A set of numbers, as runs in order, and how many numbers were given for it. Contracts see the list of the numbers.
+/// A set of numbers, as runs in order, and how many they are. Contracts see the list of the numbers.
 #[derive(Drop)]
 pub(crate) struct Runs {
     runs: Vec<Run>,
@@ -79,16 +79,16 @@ impl Model for Runs {
 }
 
 impl Runs {
-    /// The runs of these numbers, which don't fall.
-    pub(crate) fn of(alloc: Global, numbers: &[usize]) -> Result<Runs, AllocError>
-        requires { IsNonDecreasing numbers.now }
-        ensures { IfOk result (λ runs. (number : ℕ) → Contains runs number ↔ Contains numbers.now number) }
+    /// The runs of the numbers of these runs, each of which ends where it begins or later.
+    pub(crate) fn of(alloc: Global, runs: &mut Vec<Run>) -> Result<Runs, AllocError>
+        requires { AreWhole runs.old.items }
+        ensures { IfOk result (λ row. (number : ℕ) → Contains row number
+            ↔ Contains (numbers_in runs.old.items) number) }
     {
-        let runs = runs_of(alloc, numbers)?;
-        Ok(Runs {
-            runs,
-            given: numbers.len(),
-        })
+        runs.sort_unstable_by_key(|run| run.first);
+        let runs = joined(alloc, runs.as_slice())?;
+        let given = count_in(runs.as_slice());
+        Ok(Runs { runs, given })
     }
 
     /// Whether the number is in a run.
@@ -104,12 +104,13 @@ impl Runs {
 
     /// The runs.
     pub(crate) fn as_slice(&self) -> &[Run]
-        ensures { numbers_in result.now ≡ self.now }
+        ensures numbers { numbers_in result.now ≡ self.now }
+        ensures whole { AreWhole result.now }
     {
         self.runs.as_slice()
     }
 
-    /// How many numbers were given.
+    /// How many numbers there are.
     pub(crate) fn given(&self) -> usize {
         self.given
     }
@@ -122,57 +123,71 @@ fn run_at(runs: &[Run], index: usize) -> Option<Run>
     runs.get(index).copied()
 }
 
-/// The runs of numbers that don't fall.
-fn runs_of(alloc: Global, numbers: &[usize]) -> Result<Vec<Run>, AllocError>
-    requires { IsNonDecreasing numbers.now }
-    ensures order { IfOk result (λ runs. AreInOrder runs.items) }
-    ensures numbers { IfOk result (λ runs. (number : ℕ) → Contains (numbers_in runs.items) number ↔ Contains numbers.now
-        number) }
+/// How many numbers runs have, if no number is in two.
+fn count_in(runs: &[Run]) -> usize {
+    let mut count: usize = 0;
+    for run in runs {
+        count = count
+            .saturating_add(run.last.saturating_sub(run.first))
+            .saturating_add(1);
+    }
+    count
+}
+
+/// Runs of the numbers of these, which begin one behind the other, in order.
+fn joined(alloc: Global, runs: &[Run]) -> Result<Vec<Run>, AllocError>
+    requires order { IsNonDecreasingBy (λ run. run.first) runs.now }
+    requires whole { AreWhole runs.now }
+    ensures order { IfOk result (λ joined. AreInOrder joined.items) }
+    ensures numbers { IfOk result (λ joined. (number : ℕ) → Contains (numbers_in joined.items) number
+        ↔ Contains (numbers_in runs.now) number) }
 {
-    match numbers {
+    match runs {
         [] => Ok(Vec::new(alloc)),
-        [first, others @ ..] => runs_from(alloc, *first, others),
+        [first, others @ ..] => joined_from(alloc, *first, others),
     }
 }
 
-/// The same for a first number and others.
-fn runs_from(alloc: Global, first: usize, others: &[usize]) -> Result<Vec<Run>, AllocError>
-    requires { IsNonDecreasing (first ∷ others.now) }
-    ensures order { IfOk result (λ runs. AreInOrder runs.items) }
-    ensures numbers { IfOk result (λ runs. (number : ℕ) → Contains (numbers_in runs.items) number ↔ Contains (first ∷
-        others.now) number) }
+/// The same for a first run and others.
+fn joined_from(alloc: Global, first: Run, others: &[Run]) -> Result<Vec<Run>, AllocError>
+    requires order { IsNonDecreasingBy (λ run. run.first) (first ∷ others.now) }
+    requires whole { AreWhole (first ∷ others.now) }
+    ensures order { IfOk result (λ joined. AreInOrder joined.items) }
+    ensures numbers { IfOk result (λ joined. (number : ℕ) → Contains (numbers_in joined.items) number
+        ↔ Contains (numbers_in (first ∷ others.now)) number) }
 {
-    let mut runs = Vec::new(alloc);
-    let mut run = Run { first, last: first };
-    for number in others {
-        run = with_next(&mut runs, run, *number)?;
+    let mut joined = Vec::new(alloc);
+    let mut run = first;
+    for next in others {
+        run = with_next(&mut joined, run, *next)?;
     }
-    runs.push(run)?;
-    Ok(runs)
+    joined.push(run)?;
+    Ok(joined)
 }
 
-/// A run with a number that isn't before its last one. If the number is behind the next one, the run is kept, and the
-/// number begins another.
-fn with_next(runs: &mut Vec<Run>, run: Run, number: usize) -> Result<Run, AllocError>
+/// A run with the numbers of one that doesn't begin before it. If they are apart, the first is kept, and the other one
+/// is given.
+fn with_next(runs: &mut Vec<Run>, run: Run, next: Run) -> Result<Run, AllocError>
     requires whole { run.first ≤ run.last }
-    requires behind { run.last ≤ number }
-    ensures numbers { IfOk result (λ next. (other : ℕ) → HasNumber runs.new.items next other ↔
-        (HasNumber runs.old.items run other ⊎ (other ≡ number))) }
-    ensures before { IfOk result (λ next. AreBefore runs.old.items run.first → AreBefore runs.new.items next.first) }
-    ensures whole { IfOk result (λ next. next.first ≤ next.last) }
-    ensures last { IfOk result (λ next. next.last ≡ number) }
+    requires next { next.first ≤ next.last }
+    requires behind { run.first ≤ next.first }
+    ensures numbers { IfOk result (λ last. (other : ℕ) → HasNumber runs.new.items last other
+        ↔ (HasNumber runs.old.items run other ⊎ IsIn next other)) }
+    ensures before { IfOk result (λ last. AreBefore runs.old.items run.first → AreBefore runs.new.items last.first) }
+    ensures whole { IfOk result (λ last. last.first ≤ last.last) }
+    ensures behind { IfOk result (λ last. last.first ≤ next.first) }
 {
-    if number - run.last <= 1 {
+    if next.last <= run.last {
+        return Ok(run);
+    }
+    if next.first.saturating_sub(run.last) <= 1 {
         return Ok(Run {
             first: run.first,
-            last: number,
+            last: next.last,
         });
     }
     runs.push(run)?;
-    Ok(Run {
-        first: number,
-        last: number,
-    })
+    Ok(next)
 }
 
 /// The files that one file sees, as runs of places in an order of all files. Contracts see the list of the files.

@@ -135,9 +135,8 @@ impl Search {
         ensures { IfOk result (λ runs. (number : ℕ) → Contains (files_at order.now runs) number ↔ Contains
             self.now.numbers number) }
     {
-        let mut places = order.places_of(alloc, self.numbers.as_slice())?;
-        places.sort()?;
-        let runs = Runs::of(alloc, places.as_slice())?;
-        Ok(runs)
+        let mut runs = Vec::with_capacity(alloc, self.numbers.len())?;
+        order.add_files(&mut runs, self.numbers.as_slice())?;
+        Runs::of(alloc, &mut runs)
     }
 }

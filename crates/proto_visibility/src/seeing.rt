@@ -16,6 +16,7 @@ ghost use Rattle.proto_visibility.specs.Absences.{Broken, NoneBroken};
 use crate::file_order::FileOrder;
 use crate::files::LinkFile;
 use crate::import_table::Steps;
+use crate::leading::{led_files, seen_from};
 use crate::options::OptionsIn;
 use crate::reaching::{linking_sources, reach};
 use crate::rows::{FileRow, Runs, SeenRow};
@@ -74,17 +75,21 @@ fn seen_rows(alloc: Global, table: &[Steps], order: &FileOrder) -> Result<Vec<Ru
     ensures { IfOk result (λ rows. AreRowsBy (HasStep table.now) (length table.now)
         (map (files_at order.now) rows.items)) }
 {
+    let led = led_files(alloc, table, order)?;
     let mut rows = Vec::with_capacity(alloc, table.len())?;
     let mut search = Search::new(alloc, table.len())?;
     for file in 0..table.len() {
-        search_from(&mut search, table, file)?;
-        rows.push_reserved(search.to_runs(alloc, order)?);
+        rows.push_reserved(seen_from(alloc, &mut search, &led, file)?);
     }
     Ok(rows)
 }
 
 /// Finds the files that a file sees: what it imports, and what public imports lead to from there.
-fn search_from(search: &mut Search, table: &[Steps], file: usize) -> Result<(), AllocError>
+pub(crate) fn search_from(
+    search: &mut Search,
+    table: &[Steps],
+    file: usize,
+) -> Result<(), AllocError>
     requires within { AreWithin table.now }
     requires files { search.old.files ≡ length table.now }
     requires file { file < length table.now }

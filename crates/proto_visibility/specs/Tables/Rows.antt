@@ -16,15 +16,19 @@ IsIn run number = (run.first ≤ number) × (number ≤ run.last)
 abbrev pub HasNumber : List Run → Run → ℕ → Type 0
 HasNumber runs run number = Contains (numbers_in runs) number ⊎ IsIn run number
 
--- no run begins or ends before an earlier one does
+-- each run ends where it begins, or later
+abbrev pub AreWhole : List Run → Type 0
+AreWhole runs = All (λ run. run.first ≤ run.last) runs
+
+-- such runs, of which none begins or ends before an earlier one does
 pub record AreInOrder (runs : List Run) : Type 0 where
+  pub whole : AreWhole runs
   pub firsts : IsNonDecreasingBy (λ (run : Run). run.first) runs
   pub lasts : IsNonDecreasingBy (λ (run : Run). run.last) runs
 
--- such runs, of which each ends where it begins or later, but not behind the number
+-- such runs, none of which ends behind the number
 pub record AreBefore (runs : List Run) (number : ℕ) : Type 0 where
   pub order : AreInOrder runs
-  pub whole : All (λ (run : Run). run.first ≤ run.last) runs
   pub ended : All (λ (run : Run). run.last ≤ number) runs
 
 -- the files at these places of an order
@@ -34,3 +38,9 @@ files_at order places = filter_map (slice_get order) places
 -- the one list has the place of each file in the other
 abbrev pub AreRanks : (order ranks : List ℕ) → Type 0
 AreRanks order ranks = (number rank : ℕ) → (slice_get order rank ≡ Some number) ↔ (slice_get ranks number ≡ Some rank)
+
+-- these runs have the files of those, and more
+pub record IsWith (order : List ℕ) (old new : List Run) (More : ℕ → Type 0) : Type 0 where
+  pub has : (file : ℕ) → Contains (files_at order (numbers_in new)) file
+      ↔ (Contains (files_at order (numbers_in old)) file ⊎ More file)
+  pub whole : AreWhole old → AreWhole new

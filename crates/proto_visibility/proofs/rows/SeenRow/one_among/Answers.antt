@@ -10,7 +10,8 @@ returns-in-Some c =
     let its = c.in-Some.ensures.1 in (
       c.in-Some.ensures.0,
       seen_by_run c.self.inside.order.now runs c.self.inside.runs.now c.args.self.now index _ c.in-Some.number
-          c.as_slice-run-items.ensures c.self.view_is (slice_get-get_or runs index _ (omega arith)) its.0 its.1 its.2,
+          c.as_slice-run-items.ensures.numbers c.self.view_is (slice_get-get_or runs index _ (omega arith)) its.0
+          its.1 its.2,
     )
 
 pub loop-run-preserved : goal.loop-run-preserved
@@ -24,4 +25,5 @@ loop-run-preserved c =
 pub returns : goal.returns
 returns c =
     none_of_runs c.self.inside.order.now c.as_slice-run-items.result.now c.args.numbers.now c.self.inside.runs.now
-    c.args.self.now c.loop-run.run-index c.as_slice-run-items.ensures c.self.view_is (omega arith) c.loop-run.invariant
+    c.args.self.now c.loop-run.run-index c.as_slice-run-items.ensures.numbers c.self.view_is (omega arith)
+    c.loop-run.invariant

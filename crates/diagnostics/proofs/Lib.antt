@@ -19,6 +19,8 @@ mod LawWidthLemmas
 mod LiteralLemmas
 -- Gaps and literals, one after another
 mod LiteralTextLemmas
+-- What of a long line is near a place
+mod NearLemmas
 -- Which bytes stand as they are
 mod ShownLemmas
 -- A list of hints, from its front

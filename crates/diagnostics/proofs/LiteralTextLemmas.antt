@@ -1,5 +1,5 @@
 -- Gaps and literals, one after another.
-use Rattle.std.proofs.Common.{◌≡◌, ◌∙◌, ap, refl, sym, ℕ, zero, suc, ◌-◌, ◌<◌, Bool, true, false, nat_eq, bytes_eq}
+use Rattle.std.proofs.Common.{◌≡◌, ◌∙◌, ap, refl, sym, ℕ, zero, suc, ◌-◌, ◌<◌, true, false, nat_eq, bytes_eq}
 use Rattle.std.proofs.Common.{List, [], ◌∷◌, length, take, drop, ◌++◌, append_assoc, arith}
 use Rattle.std.proofs.Math.Seq.{drop-append_seam, take-append_seam}
 use Rattle.std.proofs.lemmas.Bool.{cond-false}

@@ -5,8 +5,7 @@ use Rattle.std.specs.Prelude.{codes}
 use Rattle.std.specs.Borrow.{Bor}
 use Rattle.std.proofs.lemmas.List.{append-nil, take_all}
 use Rattle.diagnostics.specs.Appended.{between, listed, listed_text}
-use Rattle.diagnostics.specs.Wording.{hints_text, items, joined, shown}
-use Rattle.diagnostics.specs.declared.wording.TheConstants.{MAX_TOLD}
+use Rattle.diagnostics.specs.Wording.{hints_text, items, joined, max_told, shown}
 use Rattle.diagnostics.proofs.HintLemmas.{texts}
 
 pub first_of : (hints : List (Bor (List ℕ))) (blank : Bor (List ℕ)) (room : ℕ) → 1 ≤ length hints → (room ≡ 0 → ⊥)
@@ -46,4 +45,4 @@ listed_joined (h ∷ next ∷ third ∷ more) (suc (suc (suc room))) =
 
 pub text_is : (hints : List (List ℕ)) → listed_text hints ≡ hints_text hints
 text_is [] = refl
-text_is (first ∷ more) = ap (λ (t : List ℕ). codes ": " ++ t) (listed_joined (first ∷ more) MAX_TOLD)
+text_is (first ∷ more) = ap (λ (t : List ℕ). codes ": " ++ t) (listed_joined (first ∷ more) max_told)

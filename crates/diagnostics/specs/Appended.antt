@@ -1,7 +1,6 @@
 -- What private code appends: candidates to what is found, and hints to a text.
 use Rattle.std.specs.Prelude.{◌≡◌, ℕ, zero, suc, Bool, List, [], ◌∷◌, ◌++◌, codes, if◌then◌else◌}
-use Rattle.diagnostics.specs.Wording.{shown}
-use Rattle.diagnostics.specs.declared.wording.TheConstants.{MAX_TOLD}
+use Rattle.diagnostics.specs.Wording.{max_told, shown}
 
 -- ---- candidates
 
@@ -30,4 +29,4 @@ listed (hint ∷ behind) (suc room) = shown hint ++ between behind room ++ liste
 
 abbrev pub listed_text : List (List ℕ) → List ℕ
 listed_text [] = []
-listed_text (first ∷ more) = codes ": " ++ listed (first ∷ more) MAX_TOLD
+listed_text (first ∷ more) = codes ": " ++ listed (first ∷ more) max_told

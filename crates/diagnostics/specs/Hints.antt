@@ -5,7 +5,6 @@ use Rattle.proto_parse.specs.dialect.Dialect.{Dialect}
 use Rattle.diagnostics.specs.Answers.{IsAnswer}
 use Rattle.diagnostics.specs.Candidates.{signs, number, whole_numbers, literal, versions, name, words}
 use Rattle.diagnostics.specs.Wording.{hints_text}
-use Rattle.diagnostics.specs.declared.hints.TheConstants.{MAX_FRONT}
 
 -- ---- one candidate
 
@@ -54,8 +53,12 @@ pub record AreHints (Could : List ℕ → Bool → Type 0) (hints : List (List �
 
 -- ---- their text
 
--- Past so many bytes nothing is tried or told.
+-- the most bytes before a place of which something is told (this project's own choice)
+abbrev pub max_front : ℕ
+max_front = 65536
+
+-- Past so many nothing is tried or told.
 pub data IsHinted (dialect : Dialect) (front text : List ℕ) : Type 0 where
-  untried : MAX_FRONT < length front → text ≡ [] → IsHinted dialect front text
-  tried : (hints : List (List ℕ)) → length front ≤ MAX_FRONT → AreHints (CouldStand dialect front) hints
+  untried : max_front < length front → text ≡ [] → IsHinted dialect front text
+  tried : (hints : List (List ℕ)) → length front ≤ max_front → AreHints (CouldStand dialect front) hints
       → text ≡ hints_text hints → IsHinted dialect front text

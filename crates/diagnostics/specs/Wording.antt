@@ -2,7 +2,6 @@
 use Rattle.std.specs.Prelude.{ℕ, List, [], ◌∷◌, ◌++◌, Option, Some, None, bytes_eq, codes, drop, map, take}
 use Rattle.std.specs.Prelude.{if◌then◌else◌}
 use Rattle.diagnostics.specs.Candidates.{capital_name, literal, name, number, whole_number}
-use Rattle.diagnostics.specs.declared.wording.TheConstants.{MAX_TOLD}
 
 -- what is said of candidates that stand for others of their kind
 abbrev pub phrase : (spelling : List ℕ) → Option (List ℕ)
@@ -37,7 +36,11 @@ joined (last ∷ []) = last
 joined (item ∷ last ∷ []) = item ++ codes " or " ++ last
 joined (item ∷ next ∷ third ∷ more) = item ++ codes ", " ++ joined (next ∷ third ∷ more)
 
+-- how many a sentence tells at most (this project's own choice)
+abbrev pub max_told : ℕ
+max_told = 9
+
 -- what a sentence goes on with
 abbrev pub hints_text : List (List ℕ) → List ℕ
 hints_text [] = []
-hints_text (first ∷ more) = codes ": " ++ joined (items MAX_TOLD (first ∷ more))
+hints_text (first ∷ more) = codes ": " ++ joined (items max_told (first ∷ more))

@@ -3,6 +3,7 @@
 ghost use Rattle.std.specs.Prelude.{◌≡◌, ◌+◌, ◌<◌, ◌≤◌, [], ◌∷◌, MatchOption, IfSome, length, drop};
 ghost use Rattle.std.specs.List.{prefix_len};
 ghost use Rattle.diagnostics.specs.Characters.{characters, goes_on};
+ghost use Rattle.diagnostics.specs.Excerpts.{last_of};
 
 /// Whether the byte goes on with a character.
 pub(crate) fn goes_on(byte: u8) -> bool
@@ -60,4 +61,12 @@ pub(crate) fn skip_characters(bytes: &[u8], count: usize) -> &[u8]
         left -= 1;
     }
     rest
+}
+
+/// The bytes of the last characters, at most this many.
+pub(crate) fn last_characters(bytes: &[u8], most: usize) -> &[u8]
+    ensures last { characters result.now ≡ last_of most (characters bytes.now) }
+    ensures few { length (characters result.now) ≤ most }
+{
+    skip_characters(bytes, count_characters(bytes).saturating_sub(most))
 }

@@ -1,6 +1,6 @@
 //! A line of a source, with a part of it marked.
 
-ghost use Rattle.std.specs.Prelude.{◌≡◌, ◌≤◌, ◌++◌, OnOk, codes, length, take, ◌<◌};
+ghost use Rattle.std.specs.Prelude.{◌≡◌, ◌++◌, OnOk, codes, take, ◌<◌};
 ghost use Rattle.std.specs.String.{string_bytes};
 ghost use Rattle.diagnostics.specs.Characters.{characters};
 ghost use Rattle.diagnostics.specs.Excerpts.{
@@ -18,10 +18,12 @@ ghost use Rattle.diagnostics.specs.Excerpts.{
   where_cut,
 };
 ghost use Rattle.diagnostics.specs.Shown.{marks, shown_text};
+ghost use Rattle.diagnostics.specs.Tables.Steps.{both, parts_between};
 
-use crate::characters::{count_characters, skip_characters};
+use crate::characters::{count_characters, last_characters};
 use crate::counter::LineCounter;
-use crate::line::{cut, first_line, last_line};
+use crate::line::cut;
+use crate::near::{end_of_line, front_of_line};
 use crate::shown::{push_marks, push_shown};
 use std::alloc::{AllocError, Global};
 
@@ -53,14 +55,6 @@ fn push_where_cut(out: &mut String, cut: bool, text: &str) -> Result<(), AllocEr
     ensures { OnOk result (string_bytes out.new ≡ string_bytes out.old ++ where_cut cut text.now) }
 {
     if cut { out.push_str(text) } else { Ok(()) }
-}
-
-/// The bytes of the last characters, at most this many.
-fn last_characters(bytes: &[u8], most: usize) -> &[u8]
-    ensures last { characters result.now ≡ last_of most (characters bytes.now) }
-    ensures few { length (characters result.now) ≤ most }
-{
-    skip_characters(bytes, count_characters(bytes).saturating_sub(most))
 }
 
 /// Appends the last characters, at most this many, as they are shown.
@@ -172,6 +166,38 @@ fn push_below(
     push_mark_line(out, before, marked, behind)
 }
 
+/// Appends a line with a number, and what is below it.
+fn push_both(
+    out: &mut String,
+    number: &str,
+    before: &[u8],
+    marked: &[u8],
+    behind: &[u8],
+) -> Result<(), AllocError>
+    ensures { OnOk result (string_bytes out.new ≡ string_bytes out.old
+        ++ both number.now (parts_in before.now marked.now behind.now)) }
+{
+    push_numbered(out, number, before, marked, behind)?;
+    push_below(out, number, before, marked, behind)
+}
+
+/// Appends the line between two parts of a text, and marks so many bytes of it, from the second part on. Of a long line
+/// what is near the place is looked at, and not all of it.
+fn push_around(
+    out: &mut String,
+    number: &str,
+    front: &[u8],
+    back: &[u8],
+    len: usize,
+) -> Result<(), AllocError>
+    ensures { OnOk result (string_bytes out.new ≡ string_bytes out.old
+        ++ both number.now (parts_between front.now back.now len)) }
+{
+    let before = end_of_line(front);
+    let (marked, behind) = cut(front_of_line(back, len), len);
+    push_both(out, number, before, marked, behind)
+}
+
 /// Appends the line of an offset in the counter's text, with its number, and marks this many bytes from the offset on.
 pub fn push_excerpt(
     alloc: Global,
@@ -186,10 +212,7 @@ pub fn push_excerpt(
     let (line, _) = counter.line_and_column(at);
     let (front, back) = cut(counter.text(), at);
     let number = format!(in alloc; "{line}")?;
-    let before = last_line(front);
-    let (marked, behind) = cut(first_line(back), len);
-    push_numbered(out, number.as_str(), before, marked, behind)?;
-    push_below(out, number.as_str(), before, marked, behind)
+    push_around(out, number.as_str(), front, back, len)
 }
 
 /// Appends bytes of a source between backquotes.

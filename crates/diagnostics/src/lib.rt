@@ -14,6 +14,7 @@ mod shown;
 // What its tokens spell.
 mod gaps;
 mod literals;
+mod near;
 
 // What could be at a fault of the parser.
 mod answers;

@@ -48,7 +48,7 @@ pub(crate) fn cut(bytes: &[u8], at: usize) -> (&[u8], &[u8])
 }
 
 /// How many bytes come after the last line end.
-fn last_line_len(text: &[u8]) -> usize
+pub(crate) fn last_line_len(text: &[u8]) -> usize
     ensures value { result ≡ suffix_len (λ byte. not (is_line_end byte)) text.now }
     ensures within { result ≤ length text.now }
 {

@@ -1,7 +1,11 @@
--- How the code goes: private forms of `marks`, by characters of the source, and of `closing_len`, byte by byte.
-use Rattle.std.specs.Prelude.{List, [], ◌∷◌, ℕ, ◌+◌, Bool, not, ◌&&◌, ◌++◌, nat_eq, if◌then◌else◌}
-use Rattle.std.specs.List.{flat_map}
+-- How the code goes: private forms of `marks`, by characters of the source, and of `closing_len`, byte by byte; and
+-- what of a line is near a place.
+use Rattle.std.specs.Prelude.{List, [], ◌∷◌, ℕ, ◌+◌, Bool, not, ◌&&◌, ◌++◌, nat_eq, take, drop, if◌then◌else◌}
+use Rattle.std.specs.List.{after_last, before_first, flat_map}
 use Rattle.proto_lex.specs.Ascii.{backslash}
+use Rattle.proto_lex.specs.Position.{is_line_end}
+use Rattle.diagnostics.specs.Excerpts.{Parts, below, line_room, numbered, parts_in}
+use Rattle.diagnostics.specs.Places.{without_return}
 use Rattle.diagnostics.specs.Shown.{is_plain, mark}
 
 -- a sign for each place of an escape
@@ -25,3 +29,17 @@ abbrev pub closing_from : (quote : ℕ) → (escaped : Bool) → List ℕ → �
 closing_from quote escaped [] = 0
 closing_from quote escaped (byte ∷ bytes) =
     if closes quote escaped byte then 1 else 1 + closing_from quote (escapes escaped byte) bytes
+
+-- how many characters of a line are near a place: one more than are shown
+abbrev pub near : ℕ
+near = line_room + 1
+
+-- a line with a number, and what is below it
+abbrev pub both : (number : List ℕ) → Parts → List ℕ
+both number parts = numbered number parts ++ below number parts
+
+-- the line between two parts of a text, of which so many bytes are marked
+abbrev pub parts_between : (front back : List ℕ) (len : ℕ) → Parts
+parts_between front back len =
+    parts_in (after_last is_line_end front) (take len (without_return (before_first is_line_end back)))
+    (drop len (without_return (before_first is_line_end back)))

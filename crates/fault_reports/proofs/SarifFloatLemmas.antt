@@ -28,11 +28,12 @@ of_results : (findings : List Found) → items_have_float (items_of (map result_
 of_results [] = refl
 of_results (found ∷ findings) = ap₂ (λ a b. a || b) (of_result found) (of_results findings)
 
-of_rules : (names : List (List ℕ)) → items_have_float (items_of (map rule_value names)) ≡ false
-of_rules [] = refl
-of_rules (name ∷ names) = of_rules names
+of_rules : (findings : List Found) (names : List (List ℕ))
+    → items_have_float (items_of (map (rule_value findings) names)) ≡ false
+of_rules findings [] = refl
+of_rules findings (name ∷ names) = of_rules findings names
 
 pub of_log : (findings : List Found) → has_float (log_value findings) ≡ false
 of_log findings =
     ap₂ (λ a b. ((a || (((b || false) || false) || false)) || false) || false) (of_results findings)
-    (of_rules (new_names [] (map (λ (found : Found). found.name) findings)))
+    (of_rules findings (new_names [] (map (λ (found : Found). found.name) findings)))

@@ -5,6 +5,7 @@ pub mod Points
 -- its values in JSON, a line for each
 pub mod JsonLines
 -- its log in SARIF
+pub mod Rules
 pub mod Sarif
 -- the whole report
 pub mod Reports

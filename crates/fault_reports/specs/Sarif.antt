@@ -1,15 +1,17 @@
 -- A report as a log in the Static Analysis Results Interchange Format (SARIF 2.1.0, OASIS): one run, a result for each
 -- finding, and a rule for each name. Keys are in the order of their bytes.
-use Rattle.std.specs.Prelude.{ℕ, ◌-◌, Bool, List, [], ◌∷◌, ◌++◌, Option, None, Some, codes, map, if◌then◌else◌}
-use Rattle.std.specs.List.{list_any}
+use Rattle.std.specs.Prelude.{ℕ, ◌+◌, ◌-◌, ◌^◌, Bool, List, [], ◌∷◌, ◌++◌, Option, None, Some, codes, map}
+use Rattle.std.specs.Prelude.{if◌then◌else◌}
+use Rattle.std.specs.List.{find, list_any}
 use Rattle.std.specs.Str.{bytes_eq}
 use Rattle.percent_encoding.specs.Percent.{percent_encode}
+use Rattle.percent_encoding.specs.declared.ascii_set.AsciiSet.{AsciiSet}
 use Rattle.serde_json.specs.Data.{Data, number, unsigned, string, array, item, no_items}
 use Rattle.serde_json.specs.Data.{object, Members, member, no_members}
 use Rattle.serde_json.specs.View.{items_of}
-use Rattle.fault_reports.specs.declared.sarif.TheConstants.{ESCAPED}
 use Rattle.fault_reports.specs.declared.finding.FindingKind.{FindingKind}
 use Rattle.fault_reports.specs.declared.finding.Point.{Point}
+use Rattle.fault_reports.specs.Rules.{lexing_text}
 use Rattle.fault_reports.specs.Findings.{Found, FoundPlace, end_of, level_of, related_of, start_of}
 
 -- a text in a message (3.11)
@@ -44,11 +46,18 @@ abbrev pub region_members : (start end : Option Point) → Members
 region_members None end = no_members
 region_members (Some start) end = member (codes "region") (region_value start end) no_members
 
+-- the bytes of a path that a reference escapes, bit by bit: all but `-`, `.`, `/` and digits (45 to 57), capital
+-- letters (65 to 90), `_` (95), small letters (97 to 122) and `~` (126) (RFC 3986, 2.3 and 3.3)
+abbrev pub escaped : AsciiSet
+escaped = record {
+  mask = (2 ^ 128 - 1) - ((2 ^ 58 - 2 ^ 45) + (2 ^ 91 - 2 ^ 65) + 2 ^ 95 + (2 ^ 123 - 2 ^ 97) + 2 ^ 126);
+}
+
 -- a file by the bytes of its path, escaped as a relative reference is (3.4.3), and a place of it (3.29)
 abbrev pub physical_value : FoundPlace → Data
 physical_value place = object
     (member (codes "artifactLocation")
-    (object (member (codes "uri") (string (percent_encode ESCAPED place.bytes)) no_members))
+    (object (member (codes "uri") (string (percent_encode escaped place.bytes)) no_members))
     (region_members (start_of place) (end_of place)))
 
 -- where a finding is (3.28), none if it is of no file
@@ -90,12 +99,28 @@ new_names before [] = []
 new_names before (name ∷ names) =
     if is_among before name then new_names before names else name ∷ new_names (before ++ name ∷ []) names
 
--- a rule (3.49)
-abbrev pub rule_value : List ℕ → Data
-rule_value name = object (member (codes "id") (string name) no_members)
+-- what is said first of a fault with a name
+abbrev pub message_or_none : Option Found → List ℕ
+message_or_none None = []
+message_or_none (Some found) = found.message
+
+abbrev pub first_message : List Found → List ℕ → List ℕ
+first_message findings name = message_or_none (find (λ (found : Found). bytes_eq found.name name) findings)
+
+-- a rule (3.49): in short what is said of the first fault with its name, and what holds of each
+abbrev pub help_text : List ℕ
+help_text = codes "docs/USAGE.md of protoscip has an example of each fault, and what --explain says of it."
+
+abbrev pub rule_value : List Found → List ℕ → Data
+rule_value findings name = object
+    (member (codes "fullDescription") (message_value (lexing_text name))
+    (member (codes "help") (message_value help_text)
+    (member (codes "id") (string name)
+    (member (codes "shortDescription") (message_value (first_message findings name)) no_members))))
 
 abbrev pub rules_value : List Found → Data
-rules_value findings = array (items_of (map rule_value (new_names [] (map (λ (found : Found). found.name) findings))))
+rules_value findings =
+    array (items_of (map (rule_value findings) (new_names [] (map (λ (found : Found). found.name) findings))))
 
 -- ---- the log
 

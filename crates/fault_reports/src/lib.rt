@@ -9,6 +9,7 @@ mod finding;
 
 // Its two forms.
 mod json_lines;
+mod rules;
 mod sarif;
 mod values;
 

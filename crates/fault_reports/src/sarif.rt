@@ -1,14 +1,19 @@
 //! A report as a log in SARIF.
 
-ghost use Rattle.std.specs.Prelude.{◌≡◌, ◌++◌, [], ◌∷◌, IfOk, OnOk, map};
+ghost use Rattle.std.specs.Prelude.{◌≡◌, ◌++◌, [], ◌∷◌, IfOk, OnOk, map, option_copied};
+ghost use Rattle.std.specs.List.{find};
+ghost use Rattle.std.specs.Str.{bytes_eq};
 ghost use Rattle.std.specs.String.{string_bytes};
 ghost use Rattle.percent_encoding.specs.Percent.{percent_encode};
 ghost use Rattle.serde_json.specs.View.{items_view, view};
-ghost use Rattle.fault_reports.specs.declared.sarif.TheConstants.{ESCAPED};
+ghost use Rattle.fault_reports.specs.Findings.{Found};
 ghost use Rattle.fault_reports.specs.Sarif.{
+  escaped,
+  first_message,
   is_among,
   locations_value,
   log_value,
+  message_or_none,
   message_value,
   new_names,
   physical_value,
@@ -25,10 +30,15 @@ ghost use Rattle.fault_reports.specs.Sarif.{
 };
 
 use crate::finding::{Finding, FindingKind, Place, Point};
+use crate::rules::lexing_text;
 use basics::tool::{NAME, VERSION};
 use percent_encoding::{AsciiSet, NON_ALPHANUMERIC, ascii_set, percent_encode};
 use serde_json::{Value, json};
 use std::alloc::{AllocError, Global};
+
+/// Where more is said of faults.
+const HELP: &str =
+    "docs/USAGE.md of protoscip has an example of each fault, and what --explain says of it.";
 
 /// The bytes of a path that are escaped in a URI: all but letters, digits, `-`, `.`, `_`, `~`, and `/`.
 const ESCAPED: AsciiSet = ascii_set!(
@@ -49,7 +59,7 @@ fn message_value(alloc: Global, text: &str) -> Result<Value, AllocError>
 
 /// A path as a relative reference.
 fn reference_to(alloc: Global, path: &[u8]) -> Result<String, AllocError>
-    ensures { IfOk result (λ text. string_bytes text ≡ percent_encode ESCAPED path.now) }
+    ensures { IfOk result (λ text. string_bytes text ≡ percent_encode escaped path.now) }
 {
     let mut text = String::new(alloc);
     percent_encode(path, ESCAPED).append_to(&mut text)?;
@@ -204,28 +214,78 @@ fn names_of<'a>(alloc: Global, findings: &[Finding<'a>]) -> Result<Vec<&'a str>,
     Ok(names)
 }
 
-/// The value of a rule.
-fn rule_value(alloc: Global, name: &str) -> Result<Value, AllocError>
-    ensures { IfOk result (λ value. view value ≡ rule_value name.now) }
+/// Whether a finding has a name.
+fn has_name(finding: &Finding<'_>, name: &str) -> bool
+    ensures { result ≡ bytes_eq finding.now.name name.now }
 {
-    json!(in alloc; {"id": name})
+    finding.name() == name
+}
+
+/// The first finding with a name.
+fn first_of<'a, 'b>(findings: &'a [Finding<'b>], name: &str) -> Option<&'a Finding<'b>>
+    ensures { option_copied result ≡ find (λ (found : Found). bytes_eq found.name name.now) findings.now }
+{
+    findings.iter().find(|finding| has_name(*finding, name))
+}
+
+/// What is said of a finding; no text if there is none.
+fn message_in<'a>(finding: Option<&'a Finding<'_>>) -> &'a str
+    ensures { result.now ≡ message_or_none (option_copied finding.entry) }
+{
+    match finding {
+        Some(finding) => finding.message,
+        None => "",
+    }
+}
+
+/// What is said of the first finding with a name.
+fn first_message<'a>(findings: &'a [Finding<'_>], name: &str) -> &'a str
+    ensures { result.now ≡ first_message findings.now name.now }
+{
+    message_in(first_of(findings, name))
+}
+
+/// The value of a rule.
+fn rule_value(alloc: Global, findings: &[Finding<'_>], name: &str) -> Result<Value, AllocError>
+    ensures { IfOk result (λ value. view value ≡ rule_value findings.now name.now) }
+{
+    let full = message_value(alloc, lexing_text(name))?;
+    let help = message_value(alloc, HELP)?;
+    let short = message_value(alloc, first_message(findings, name))?;
+    json!(in alloc; {
+        "fullDescription": full,
+        "help": help,
+        "id": name,
+        "shortDescription": short
+    })
 }
 
 /// Appends the value of a rule.
-fn push_rule(alloc: Global, rules: &mut Vec<Value>, name: &str) -> Result<(), AllocError>
-    ensures { OnOk result (map view rules.new.items ≡ map view rules.old.items ++ rule_value name.now ∷ []) }
+fn push_rule(
+    alloc: Global,
+    rules: &mut Vec<Value>,
+    findings: &[Finding<'_>],
+    name: &str,
+) -> Result<(), AllocError>
+    ensures { OnOk result (map view rules.new.items ≡ map view rules.old.items
+        ++ rule_value findings.now name.now ∷ []) }
 {
-    let value = rule_value(alloc, name)?;
+    let value = rule_value(alloc, findings, name)?;
     Ok(rules.push(value)?)
 }
 
 /// The values of rules.
-fn rules_of(alloc: Global, names: &[&str]) -> Result<Vec<Value>, AllocError>
-    ensures { IfOk result (λ rules. map view rules.items ≡ map (λ name. rule_value name.now) names.now) }
+fn rules_of(
+    alloc: Global,
+    findings: &[Finding<'_>],
+    names: &[&str],
+) -> Result<Vec<Value>, AllocError>
+    ensures { IfOk result (λ rules. map view rules.items
+        ≡ map (λ name. rule_value findings.now name.now) names.now) }
 {
     let mut rules = Vec::new(alloc);
     for name in names {
-        push_rule(alloc, &mut rules, *name)?;
+        push_rule(alloc, &mut rules, findings, *name)?;
     }
     Ok(rules)
 }
@@ -235,7 +295,7 @@ fn rules_value(alloc: Global, findings: &[Finding<'_>]) -> Result<Value, AllocEr
     ensures { IfOk result (λ value. view value ≡ rules_value findings.now) }
 {
     let names = names_of(alloc, findings)?;
-    Ok(Value::from(rules_of(alloc, names.as_slice())?))
+    Ok(Value::from(rules_of(alloc, findings, names.as_slice())?))
 }
 
 /// The value of the tool.

@@ -10,6 +10,6 @@ pub returns : goal.returns
 returns c =
     c.from.ensures
     ∙ ap (λ l. array (items_of l)) (c.in_ok-rules_of.ensures
-    ∙ (ap (map (λ (name : Bor (List ℕ)). rule_value name.now)) c.as_slice.ensures.value
-    ∙ (fused rule_value (λ (name : Bor (List ℕ)). name.now) c.in_ok-names.names.items
-    ∙ ap (map rule_value) c.in_ok-names.ensures)))
+    ∙ (ap (map (λ (name : Bor (List ℕ)). rule_value c.args.findings.now name.now)) c.as_slice.ensures.value
+    ∙ (fused (rule_value c.args.findings.now) (λ (name : Bor (List ℕ)). name.now) c.in_ok-names.names.items
+    ∙ ap (map (rule_value c.args.findings.now)) c.in_ok-names.ensures)))

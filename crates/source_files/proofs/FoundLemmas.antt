@@ -1,5 +1,5 @@
 -- What is found in a folder, by what listing it gave.
-use Rattle.std.proofs.Common.{◌≡◌, ◌∙◌, ℕ, List, [], ◌∷◌, ◌++◌, map, Option, None, Some, sym, subst}
+use Rattle.std.proofs.Common.{◌≡◌, ◌∙◌, ℕ, List, [], ◌∷◌, map, Option, None, Some, sym, subst}
 use Rattle.basics.proofs.ListLemmas.{map_twice as map_after}
 use Rattle.source_files.specs.declared.listing.FolderIdentity.{FolderIdentity}
 use Rattle.source_files.specs.Entries.{Entry, Give}

@@ -1,7 +1,7 @@
 -- Sources by what looking for them gave, and the paths of files by their roots.
 use Rattle.std.proofs.Common.{◌≡◌, ◌∙◌, ◌⊎◌, ◌+◌, ◌-◌, ◌==◌, ◌<◌, ◌≤◌, ℕ, Bool, true, false, List, [], ◌∷◌, ◌++◌, map}
-use Rattle.std.proofs.Common.{length, refl, sym, ap, ap₂, subst, append_assoc, arith, All, Option, Result, string_bytes}
-use Rattle.std.proofs.Common.{drop, get_or, take, cond, inl, inr}
+use Rattle.std.proofs.Common.{length, refl, sym, ap, ap₂, subst, append_assoc, arith, All, Option, Result}
+use Rattle.std.proofs.Common.{drop, get_or, take, inl, inr}
 use Rattle.std.proofs.Math.Logic.{⊎_elim}
 use Rattle.std.specs.List.{filter, flat_map, range_with_len}
 use Rattle.std.proofs.lemmas.List.FromFn.{map-range_with_len_more}
@@ -14,7 +14,7 @@ use Rattle.source_files.specs.declared.looking.Looked.{Looked}
 use Rattle.source_files.specs.declared.looking.Looked.TheVariants.{Found, LeftOut, Nowhere}
 use Rattle.source_files.specs.Closures.{found_of, left_of}
 use Rattle.source_files.specs.Looks.{AreLooked, GivesLooked, MayStopLooking}
-use Rattle.source_files.specs.ListedTrees.{IsFirstLost, MayNotFind, paths_at}
+use Rattle.source_files.specs.ListedTrees.{MayNotFind, paths_at}
 use Rattle.source_files.specs.Reached.{AreSources, CantBeRead, HasNone, Import, IsTold, Told, path_of}
 use Rattle.source_files.specs.Reached.{no_source, is_source, is_lost}
 

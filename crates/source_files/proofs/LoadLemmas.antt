@@ -10,7 +10,7 @@ use Rattle.source_tree.specs.Files.{SourceFile, IsByPath}
 use Rattle.source_tree.specs.Laws.{OneSortingByPath}
 use Rattle.source_tree.specs.Refusals.{HaveBadPath, HaveSamePath}
 use Rattle.source_files.specs.Listings.{Listing}
-use Rattle.source_files.specs.Roots.{AreFilesBelow, FilesBelow, IsUnreadableBelow, files_of}
+use Rattle.source_files.specs.Roots.{AreFilesBelow, FilesBelow, IsUnreadableBelow}
 use Rattle.source_files.specs.RootFaults.{MayStop}
 use Rattle.source_files.specs.declared.load_fault.LoadFault.{LoadFault}
 use Rattle.source_files.specs.declared.load_fault.LoadFault.TheVariants as load

@@ -1,10 +1,10 @@
 -- Looking for files: below roots, root by root; and for several, path by path and in parts.
-use Rattle.std.proofs.Common.{◌≡◌, ◌≢◌, ◌∙◌, ◌+◌, ◌-◌, ◌<◌, ◌≤◌, ℕ, zero, suc, Bool, true, false, List, [], ◌∷◌, ◌++◌}
-use Rattle.std.proofs.Common.{map, length, Option, None, Some, Result, Ok, Err, refl, sym, ap, subst, string_bytes}
-use Rattle.std.proofs.Common.{append_assoc, arith, drop, get_or, take, All, inl, inr, Bor}
-use Rattle.std.specs.List.{AllZip, slice_get}
+use Rattle.std.proofs.Common.{◌≡◌, ◌∙◌, ◌+◌, ◌-◌, ◌<◌, ◌≤◌, ℕ, zero, suc, Bool, true, false, List, [], ◌∷◌, ◌++◌}
+use Rattle.std.proofs.Common.{map, length, Option, Result, Ok, Err, refl, sym, ap, subst}
+use Rattle.std.proofs.Common.{append_assoc, arith, drop, get_or, take}
+use Rattle.std.specs.List.{slice_get}
 use Rattle.std.specs.Option.{IfSome}
-use Rattle.std.proofs.lemmas.List.{append-nil, map-append}
+use Rattle.std.proofs.lemmas.List.{append-nil}
 use Rattle.std.proofs.lemmas.List.Elements.{All-nil, All-cons}
 use Rattle.basics.proofs.ListLemmas.{zip_append}
 use Rattle.index_pool.specs.Phase.{AnswersEach, IsLeastFault}
@@ -12,9 +12,9 @@ use Rattle.source_files.specs.declared.load_fault.LoadFault.{LoadFault}
 use Rattle.source_files.specs.declared.load_fault.LoadFault.TheVariants as load
 use Rattle.source_files.specs.declared.looking.Looked.{Looked}
 use Rattle.source_files.specs.declared.looking.Looked.TheVariants.{Found, LeftOut, Nowhere}
-use Rattle.source_files.specs.Reached.{Import, IsFirstBelow, HasNone, CantBeRead}
+use Rattle.source_files.specs.Reached.{Import, IsFirstBelow, HasNone}
 use Rattle.source_files.specs.Reached.IsFirstBelow.{is_here, is_behind}
-use Rattle.source_files.specs.Looks.{AreLooked, GivesLooked, IsLacking, MayStopLooking, StopsAt, StopsLooking}
+use Rattle.source_files.specs.Looks.{AreLooked, GivesLooked, IsLacking, MayStopLooking, StopsAt}
 use Rattle.source_files.specs.Looks.{UnreadGives}
 use Rattle.source_files.proofs.WellKnownLemmas.{first_of_rest, none_left}
 

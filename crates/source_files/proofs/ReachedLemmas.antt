@@ -1,10 +1,10 @@
 -- The files that sources reach, level by level.
 use Rattle.std.proofs.Common.{◌≡◌, ◌∙◌, ◌⊎◌, ◌↔◌, ◌+◌, ◌<◌, ◌≤◌, ℕ, Bool, true, false, List, [], ◌∷◌, ◌++◌, map, not}
-use Rattle.std.proofs.Common.{length, refl, sym, ap, subst, append_assoc, arith, All, Contains, inl, inr, Option}
+use Rattle.std.proofs.Common.{length, refl, sym, ap, subst, arith, All, Contains, inl, inr, Option}
 use Rattle.std.proofs.Common.{Result}
 use Rattle.std.proofs.Common.{◌*◌, ◌-◌, ◌&&◌, string_bytes, if◌then◌else◌}
 use Rattle.std.proofs.Math.Logic.{⊎_elim}
-use Rattle.std.specs.List.{AllZip, flat_map}
+use Rattle.std.specs.List.{flat_map}
 use Rattle.std.proofs.Common.{◌==◌}
 use Rattle.std.specs.Global.{Global}
 use Rattle.std.specs.Prelude.{String}
@@ -22,7 +22,7 @@ use Rattle.source_files.specs.declared.looking.Looked.{Looked}
 use Rattle.source_files.specs.declared.looking.Looked.TheVariants.{Found, LeftOut, Nowhere}
 use Rattle.source_files.specs.Closures.{AddsFresh, AreFresh, Gathered, none_fresh, Same, found_of, gathered, left_of}
 use Rattle.source_files.specs.Closures.{built_in_of, wanted_by, wanted_first, wanted_in, wanted_of, with_more}
-use Rattle.source_files.specs.Looks.{AreLooked, GivesLooked, MayStopLooking, StopsAt}
+use Rattle.source_files.specs.Looks.{AreLooked, GivesLooked, MayStopLooking}
 use Rattle.source_files.specs.Reached.{AreApart, AreIncluded, AreSomeReached, CantBeRead, HasNone, Import, IsReached, IsTold}
 use Rattle.source_files.specs.Reached.{MayNotInclude, Told, built_in, descriptor_path, imported, no_path, one_more}
 use Rattle.source_files.specs.Reached.{passed_on, path_of}

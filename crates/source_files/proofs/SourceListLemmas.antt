@@ -1,5 +1,5 @@
 -- Lines, one after the other.
-use Rattle.std.proofs.Common.{◌≡◌, ◌≢◌, ◌∙◌, ◌+◌, ◌<◌, ◌≤◌, ℕ, List, [], ◌∷◌, ◌++◌, length, ap, sym, subst, arith}
+use Rattle.std.proofs.Common.{◌≡◌, ◌∙◌, ◌+◌, ◌<◌, ◌≤◌, ℕ, List, [], ◌∷◌, ◌++◌, length, ap, sym, subst, arith}
 use Rattle.std.proofs.Common.{refl, true, ◌==◌}
 use Rattle.std.proofs.Common.{drop, get_or, take}
 use Rattle.std.specs.List.{slice_split}
@@ -12,7 +12,7 @@ use Rattle.source_tree.specs.Path.{IsGoodPath}
 use Rattle.source_tree.specs.Trees.{max_files}
 use Rattle.source_files.specs.declared.source_list.ListFault.{ListFault}
 use Rattle.source_files.specs.declared.source_list.ListFault.TheVariants.{TooLong, NotUtf8, BadPath, TooMany, Memory}
-use Rattle.source_files.specs.SourceLists.{AddsLine, AreNamed, IsLine, Listed, MayNotAdd, MayRefuseLines, Name}
+use Rattle.source_files.specs.SourceLists.{AddsLine, AreNamed, Listed, MayNotAdd, MayRefuseLines, Name}
 use Rattle.source_files.specs.SourceLists.{adds_none, adds_path, no_line, empty_line, path_line}
 
 name_append : {first : ℕ} {lines behind : List (List ℕ)} {listed more : List Listed} → Name first lines listed

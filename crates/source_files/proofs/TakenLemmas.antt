@@ -1,5 +1,5 @@
 -- Which files are taken, one after the other; and the tree of those that are.
-use Rattle.std.proofs.Common.{◌≡◌, ◌∙◌, Bool, true, List, [], ◌∷◌, ◌++◌, append-nil, append_assoc, ap, refl, subst, sym}
+use Rattle.std.proofs.Common.{◌≡◌, ◌∙◌, Bool, true, List, [], ◌∷◌, ◌++◌, append-nil, append_assoc, ap, subst, sym}
 use Rattle.std.proofs.Common.{ℕ, inl, inr}
 use Rattle.std.proofs.lemmas.Bool.{cases_Bool, false≢true}
 use Rattle.source_tree.specs.Files.{SourceFile, TreeFile}

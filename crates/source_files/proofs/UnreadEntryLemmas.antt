@@ -10,7 +10,7 @@ use Rattle.std.specs.Cmp.{IsTotalOrder, bool_cmp_total, both_tied, unsigned_ties
 use Rattle.std.specs.Cmp.Lexicographic.{options_total, pointwise, slice_cmp, texts_ties}
 use Rattle.std.specs.Option.{option_cmp, option_eq}
 use Rattle.std.specs.String.{string_eq}
-use Rattle.std.specs.Ordering.{bool_cmp, eq_by_cmp, is_eq, nat_cmp, on, ordering_then, then_cmp}
+use Rattle.std.specs.Ordering.{bool_cmp, eq_by_cmp, is_eq, nat_cmp, ordering_then}
 use Rattle.std.specs.declared.cmp.Ordering.{Ordering}
 use Rattle.std.specs.declared.cmp.Ordering.TheVariants.{Equal, Greater, Less}
 use Rattle.std.proofs.lemmas.Bool.{eqb-true, false≢true}
@@ -19,7 +19,7 @@ use Rattle.std.proofs.lemmas.Map.Lookups.{exact_bytes}
 use Rattle.std.proofs.lemmas.Map.Views.{tells_apart}
 use Rattle.source_files.specs.declared.listing.FolderIdentity.{FolderIdentity}
 use Rattle.source_files.specs.declared.unread_entry.UnreadEntry.{UnreadEntry}
-use Rattle.source_files.specs.Unread.{Unread, identity_cmp, shown_character, shown_path, unread_cmp, unread_of}
+use Rattle.source_files.specs.Unread.{Unread, at_path, identity_cmp, shown_character, shown_path, unread_cmp, unread_of}
 
 -- ---- it is an order
 
@@ -126,6 +126,11 @@ shown_step path shown longer text rest character utf8 parts pushed so_far =
     ∙ (append_assoc shown (shown_character character) (shown_path rest)
     ∙ (ap (λ (cs : List ℕ). shown ++ flat_map shown_character cs) (sym (chars_past_char text rest character utf8 parts))
     ∙ so_far))
+
+-- nothing is shown of the root
+pub root_is : record { shown = []; bytes = []; folder = None; has_bad_path = false } ≡ at_path []
+root_is = ap (λ (shown : List ℕ). record { shown = shown; bytes = []; folder = None; has_bad_path = false })
+    (ap (λ (cs : List ℕ). flat_map shown_character cs) (sym chars-nil))
 
 pub shown_empty : (path shown text : List ℕ) → length text ≡ 0 → shown ++ shown_path text ≡ shown_path path
     → shown ≡ shown_path path

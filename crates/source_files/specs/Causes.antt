@@ -5,7 +5,7 @@ use Rattle.std.specs.declared.io.ErrorKind.TheVariants as kind
 use Rattle.source_files.specs.declared.cause.Cause.{Cause}
 use Rattle.source_files.specs.declared.cause.Cause.TheVariants.{NoSpace, NoShare, NotAllowed, NotThere, ClosedPipe}
 use Rattle.source_files.specs.declared.cause.Cause.TheVariants.{IsFolder, NoFolder, TooLong, ReadOnly, BadName}
-use Rattle.source_files.specs.declared.cause.Cause.TheVariants.{TooManyLinks, Other}
+use Rattle.source_files.specs.declared.cause.Cause.TheVariants.{TooManyLinks, IsThere, NotEmpty, Other}
 
 abbrev pub cause_of : ErrorKind → Cause
 cause_of kind.StorageFull = NoSpace
@@ -19,6 +19,8 @@ cause_of kind.FileTooLarge = TooLong
 cause_of kind.ReadOnlyFilesystem = ReadOnly
 cause_of kind.InvalidFilename = BadName
 cause_of kind.FilesystemLoop = TooManyLinks
+cause_of kind.AlreadyExists = IsThere
+cause_of kind.DirectoryNotEmpty = NotEmpty
 cause_of _ = Other
 
 -- (strerror, ISO C and POSIX, without the capital letter)
@@ -34,4 +36,6 @@ words_of TooLong = codes "file too large"
 words_of ReadOnly = codes "read-only file system"
 words_of BadName = codes "file name too long or invalid"
 words_of TooManyLinks = codes "too many levels of symbolic links"
+words_of IsThere = codes "file exists"
+words_of NotEmpty = codes "directory not empty"
 words_of Other = codes "input/output error, or another error of the system"

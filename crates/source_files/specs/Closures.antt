@@ -1,5 +1,5 @@
 -- The files that sources reach, level by level: which paths are new, and what was found so far.
-use Rattle.std.specs.Prelude.{◌≡◌, ◌⊎◌, ◌↔◌, ◌&&◌, ℕ, ⊤, Bool, true, false, not, List, [], ◌∷◌, ◌++◌, map, All, Contains}
+use Rattle.std.specs.Prelude.{◌≡◌, ◌↔◌, ◌&&◌, ℕ, ⊤, Bool, true, false, not, List, [], ◌∷◌, ◌++◌, map, Contains}
 use Rattle.std.specs.Prelude.{String, string_bytes, if◌then◌else◌}
 use Rattle.std.specs.Global.{Global}
 use Rattle.std.specs.List.{flat_map}

@@ -1,5 +1,5 @@
 -- The tree of the sources that a list names, and of the files that they reach; and why there is none.
-use Rattle.std.specs.Prelude.{◌≡◌, ◌⊎◌, ◌==◌, ℕ, ⊤, Bool, false, List, [], ◌∷◌, ◌++◌, Option, map, take, All}
+use Rattle.std.specs.Prelude.{◌≡◌, ◌⊎◌, ◌==◌, ℕ, ⊤, Bool, false, List, ◌∷◌, ◌++◌, Option, map, take, All}
 use Rattle.std.specs.Prelude.{◌-◌, length, string_bytes}
 use Rattle.std.specs.List.{filter, range_with_len}
 use Rattle.source_tree.specs.Files.{SourceFile, TreeFile}

@@ -7,7 +7,7 @@ use Rattle.source_tree.specs.Refusals.{AreTooMany, HaveBadPath, HaveSamePath}
 use Rattle.source_files.specs.Listings.{Listing}
 use Rattle.source_files.specs.declared.load_fault.LoadFault.{LoadFault}
 use Rattle.source_files.specs.declared.load_fault.LoadFault.TheVariants.{Unreadable, TooMany, BadPath, SamePath, Memory}
-use Rattle.source_files.specs.Roots.{AreFilesBelow, FilesBelow, IsUnreadableBelow, all_unread, files_of}
+use Rattle.source_files.specs.Roots.{AreFilesBelow, FilesBelow, IsUnreadableBelow, all_unread}
 use Rattle.source_files.specs.Taken.{OfTaken}
 use Rattle.source_files.specs.Unread.{Unread}
 use Rattle.source_files.specs.Walks.{AreEachOnce}

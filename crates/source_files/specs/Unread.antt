@@ -38,10 +38,6 @@ unread_cmp =
     (then_cmp (on (λ entry. entry.bytes) (slice_cmp nat_cmp))
     (then_cmp (on (λ entry. entry.folder) (option_cmp identity_cmp)) (on (λ entry. entry.has_bad_path) bool_cmp)))
 
--- what has a path that is UTF-8, so that it is shown as it is, and can't be read
-abbrev pub at_path : (path : List ℕ) → Unread
-at_path path = record { shown = path; bytes = path; folder = None; has_bad_path = false }
-
 -- `\x09`: a control character by the two digits of its byte
 abbrev pub escaped : ℕ → List ℕ
 escaped character =
@@ -54,10 +50,14 @@ shown_character character = if nat_lt character 32 then escaped character else e
 abbrev pub shown_path : (path : List ℕ) → List ℕ
 shown_path path = flat_map shown_character (chars path)
 
+-- what has a path that is UTF-8, and can't be read
+abbrev pub at_path : (path : List ℕ) → Unread
+at_path path = record { shown = shown_path path; bytes = path; folder = None; has_bad_path = false }
+
 -- what has a path that is UTF-8, but no good one, so that it isn't taken
 abbrev pub at_bad_path : (path : List ℕ) → Unread
 at_bad_path path = record { shown = shown_path path; bytes = path; folder = None; has_bad_path = true }
 
 -- what has a name, by its path
 abbrev pub in_folder : (folder : List ℕ) → Unread → Unread
-in_folder folder named = record named { shown = folder ++ named.shown; bytes = folder ++ named.bytes }
+in_folder folder named = record named { shown = shown_path folder ++ named.shown; bytes = folder ++ named.bytes }

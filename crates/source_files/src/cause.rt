@@ -32,6 +32,10 @@ pub enum Cause {
     BadName,
     /// Links lead nowhere, or are too many.
     TooManyLinks,
+    /// There is a file already.
+    IsThere,
+    /// There is something in the folder already.
+    NotEmpty,
     /// Any other cause.
     Other,
 }
@@ -53,6 +57,8 @@ impl Cause {
             ErrorKind::ReadOnlyFilesystem => Cause::ReadOnly,
             ErrorKind::InvalidFilename => Cause::BadName,
             ErrorKind::FilesystemLoop => Cause::TooManyLinks,
+            ErrorKind::AlreadyExists => Cause::IsThere,
+            ErrorKind::DirectoryNotEmpty => Cause::NotEmpty,
             _ => Cause::Other,
         }
     }
@@ -73,6 +79,8 @@ impl Cause {
             Cause::ReadOnly => "read-only file system",
             Cause::BadName => "file name too long or invalid",
             Cause::TooManyLinks => "too many levels of symbolic links",
+            Cause::IsThere => "file exists",
+            Cause::NotEmpty => "directory not empty",
             Cause::Other => "input/output error, or another error of the system",
         }
     }

@@ -55,6 +55,7 @@ mod out_way;
 
 // Folders that are made.
 mod empty_folders;
+mod folder_in_place;
 mod folder_place;
 mod out_folder;
 

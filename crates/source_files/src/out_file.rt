@@ -13,8 +13,8 @@ use crate::system_files::given;
 use crate::system_stream::cause_in;
 use std::alloc::{AllocError, Global};
 use std::cell::Cell;
-use std::fs::Metadata;
-use std::io::ErrorKind;
+use std::fs::{Metadata, OpenOptions};
+use std::io::{ErrorKind, Write};
 use std::os::unix::fs::MetadataExt;
 use std::rt::Files;
 use std::{fs, io};
@@ -30,6 +30,7 @@ pub struct OutFile<'a, S: Files> {
     system: &'a S,
     path: &'a str,
     follows: bool,
+    syncs: bool,
     refusals: u64,
     cause: Cell<Option<Cause>>,
 }
@@ -51,9 +52,18 @@ impl<'a, S: Files> OutFile<'a, S> {
             system,
             path,
             follows,
+            syncs: false,
             refusals: 0,
             cause: Cell::new(None),
         }
+    }
+
+    /// The same place. If `syncs`, the disk has what is put there, and the entry of its folder, before it is said to be
+    /// put (POSIX, `fsync`). Files that are made, and folders, aren't waited for.
+    pub fn syncing(self, syncs: bool) -> OutFile<'a, S>
+        ensures { result.refusals ≡ self.entry.refusals }
+    {
+        OutFile { syncs, ..self }
     }
 }
 
@@ -128,7 +138,7 @@ impl<'a, S: Files> OutPlace for OutFile<'a, S> {
 
     fn begin(&self, alloc: Global) -> Result<OutPart<'a, S>, AllocError> {
         let way = Way::to(self.system, alloc, self.path)?;
-        Ok(OutPart::new(self.system, self.path, way))
+        Ok(OutPart::new(self.system, self.path, way, self.syncs))
     }
 
     fn put(&mut self, part: OutPart<'a, S>) -> Result<(), Failed> {
@@ -211,18 +221,26 @@ fn make_folders<S: Files>(system: &S, path: &str) -> io::Result<()> {
     }
 }
 
-/// Makes the folders on the way to a file, and the file.
-fn make_with_folders<S: Files>(system: &S, path: &str, bytes: &[u8]) -> io::Result<()> {
-    make_folders(system, path)?;
-    fs::write(system, path, bytes)
-}
-
-/// Makes a file, and the folders on the way to it if one isn't there.
-pub(crate) fn make_whole<S: Files>(system: &S, path: &str, bytes: &[u8]) -> io::Result<()> {
-    match fs::write(system, path, bytes) {
-        Err(error) if error.kind() == ErrorKind::NotFound => make_with_folders(system, path, bytes),
+/// Opens a file in this way, and makes the folders on the way to it if one isn't there.
+pub(crate) fn opened_with_folders<S: Files>(
+    system: &S,
+    how: &OpenOptions,
+    path: &str,
+) -> io::Result<S::File> {
+    match how.open(system, path) {
+        Err(error) if error.kind() == ErrorKind::NotFound => {
+            make_folders(system, path)?;
+            how.open(system, path)
+        }
         answer => answer,
     }
+}
+
+/// Makes a file, and the folders on the way to it if one isn't there. What is there already is replaced.
+fn make_whole<S: Files>(system: &S, path: &str, bytes: &[u8]) -> io::Result<()> {
+    let mut how = OpenOptions::new();
+    how.write(true).create(true).truncate(true);
+    opened_with_folders(system, &how, path)?.write_all(bytes)
 }
 
 impl<'a, S: Files> MakeFiles for OutFile<'a, S> {

@@ -3,9 +3,10 @@
 ghost use Rattle.std.specs.Prelude.{◌≡◌, IfOk};
 
 use crate::cause::Cause;
+use crate::folder_in_place::{FolderInPlace, make_new};
 use crate::found::path_in;
 use crate::make_files::MakeFiles;
-use crate::out_file::{are_one, make_whole};
+use crate::out_file::are_one;
 use crate::out_way::{DIGITS, NUMBERS, front_of, put_number};
 use crate::system_files::given;
 use crate::system_stream::cause_in;
@@ -30,22 +31,13 @@ struct Beside {
     behind: String,
 }
 
-/// A place where files are made.
-#[derive(Drop)]
-struct InPlace {
-    /// Its path.
-    place: String,
-    /// Whether something was there.
-    was_there: bool,
-    /// The names of what is made there.
-    names: Vec<String>,
-}
-
 /// Where the files of a folder are made.
 #[derive(Drop)]
 enum Way {
     Beside(Beside),
-    InPlace(InPlace),
+    InPlace(FolderInPlace),
+    /// Nowhere: another one has made something in the place, which was free.
+    Taken,
 }
 
 /// A folder in which files are made. What it holds isn't known.
@@ -53,7 +45,7 @@ enum Way {
 /// It is made beside its place, with all folders on the way that aren't there, and moved by one step. If an empty
 /// folder is there, it takes that one's place, with its owner, its group and its mode. In place are made: the folder
 /// where the program runs; one beside which nothing can be made, or which can't be replaced, for want of rights or
-/// since it is a file system of its own.
+/// since it is a file system of its own. What another one makes there meanwhile is never replaced.
 #[derive(Drop)]
 pub struct OutFolder<'a, S: Files> {
     system: &'a S,
@@ -165,21 +157,44 @@ fn is_open<S: Files>(system: &S, there: &Metadata) -> bool {
     there.is_dir() && there.mode() & OPEN == OPEN && !runs_here
 }
 
+/// Whether it says that the folder at a place has an entry.
+fn is_of_entry(error: &Error) -> bool {
+    matches!(
+        error.kind(),
+        ErrorKind::DirectoryNotEmpty | ErrorKind::AlreadyExists
+    )
+}
+
+/// What comes of replacing an empty folder by another one.
+enum Replaced {
+    Done,
+    /// The system refuses it.
+    Refused,
+    /// It isn't empty any more.
+    Taken,
+}
+
 /// Whether a folder can take the place of an empty one: that is tried with an empty folder.
-fn is_replaced<S: Files>(
+fn try_to_replace<S: Files>(
     system: &S,
     alloc: Global,
     place: &str,
     there: &Metadata,
-) -> Result<bool, AllocError> {
+) -> Result<Replaced, AllocError> {
     let Some(tried) = make_like(system, alloc, place, there)? else {
-        return Ok(false);
+        return Ok(Replaced::Refused);
     };
-    if system.rename(tried.as_str(), place).is_err() {
-        let _ = system.remove_dir(tried.as_str());
-        return Ok(false);
+    match system.rename(tried.as_str(), place) {
+        Ok(()) => Ok(Replaced::Done),
+        Err(error) => {
+            let _ = system.remove_dir(tried.as_str());
+            if is_of_entry(&error) {
+                Ok(Replaced::Taken)
+            } else {
+                Ok(Replaced::Refused)
+            }
+        }
     }
-    Ok(true)
 }
 
 /// Makes a folder that is to take the place of an empty one. None if it can't.
@@ -188,20 +203,22 @@ fn beside_folder<S: Files>(
     alloc: Global,
     place: &str,
     there: &Metadata,
-) -> Result<Option<Beside>, AllocError> {
+) -> Result<Option<Way>, AllocError> {
     if !is_entry(last_name(place)) || !is_open(system, there) {
         return Ok(None);
     }
-    if !is_replaced(system, alloc, place, there)? {
-        return Ok(None);
+    match try_to_replace(system, alloc, place, there)? {
+        Replaced::Done => {}
+        Replaced::Refused => return Ok(None),
+        Replaced::Taken => return Ok(Some(Way::Taken)),
     }
     let at = String::from_str(alloc, place)?;
     match make_like(system, alloc, place, there)? {
-        Some(path) => Ok(Some(Beside {
+        Some(path) => Ok(Some(Way::Beside(Beside {
             path,
             place: at,
             behind: String::new(alloc),
-        })),
+        }))),
         None => Ok(None),
     }
 }
@@ -211,7 +228,7 @@ fn beside_nothing<S: Files>(
     system: &S,
     alloc: Global,
     path: &str,
-) -> Result<Option<Beside>, AllocError> {
+) -> Result<Option<Way>, AllocError> {
     let first = first_missing(system, path, path.len());
     let behind = path.strip_prefix(first).unwrap_or("");
     if !is_entry(last_name(first)) || behind.split('/').any(|name| matches!(name, "." | "..")) {
@@ -220,21 +237,17 @@ fn beside_nothing<S: Files>(
     let place = String::from_str(alloc, first)?;
     let behind = String::from_str(alloc, behind)?;
     match make_beside(system, alloc, first)? {
-        Some(path) => Ok(Some(Beside {
+        Some(path) => Ok(Some(Way::Beside(Beside {
             path,
             place,
             behind,
-        })),
+        }))),
         None => Ok(None),
     }
 }
 
 /// Makes a folder that is to be where a link leads. None if it can't be moved there.
-fn beside_link<S: Files>(
-    system: &S,
-    alloc: Global,
-    path: &str,
-) -> Result<Option<Beside>, AllocError> {
+fn beside_link<S: Files>(system: &S, alloc: Global, path: &str) -> Result<Option<Way>, AllocError> {
     let (Some(place), Some(there)) = (
         given(system.canonicalize(alloc, path))?,
         given(system.metadata(path))?,
@@ -245,11 +258,7 @@ fn beside_link<S: Files>(
 }
 
 /// Makes a folder beside a place. None if it can't be moved there.
-fn made_beside<S: Files>(
-    system: &S,
-    alloc: Global,
-    path: &str,
-) -> Result<Option<Beside>, AllocError> {
+fn made_beside<S: Files>(system: &S, alloc: Global, path: &str) -> Result<Option<Way>, AllocError> {
     match system.symlink_metadata(path) {
         Ok(there) if there.is_symlink() => beside_link(system, alloc, path),
         Ok(there) => beside_folder(system, alloc, path, &there),
@@ -260,15 +269,10 @@ fn made_beside<S: Files>(
 
 /// Where the files of the folder with a path are made.
 fn way_to<S: Files>(system: &S, alloc: Global, path: &str) -> Result<Way, AllocError> {
-    if let Some(beside) = made_beside(system, alloc, path.trim_end_matches('/'))? {
-        return Ok(Way::Beside(beside));
+    match made_beside(system, alloc, path.trim_end_matches('/'))? {
+        Some(way) => Ok(way),
+        None => Ok(Way::InPlace(FolderInPlace::at(system, alloc, path)?)),
     }
-    let folder = if path.is_empty() { "." } else { path };
-    Ok(Way::InPlace(InPlace {
-        place: String::from_str(alloc, folder)?,
-        was_there: system.metadata(folder).is_ok(),
-        names: Vec::new(alloc),
-    }))
 }
 
 /// Moves a folder to a place, on the way to which folders are made if they aren't there.
@@ -299,34 +303,14 @@ impl Beside {
     }
 }
 
-impl Way {
-    /// The path of a file in the folder.
+impl Beside {
+    /// The path of a file in it.
     fn path_of(&self, alloc: Global, path: &str) -> Result<String, AllocError> {
-        let mut file = String::new(alloc);
-        match self {
-            Way::Beside(beside) => {
-                file.push_str(beside.path.as_str())?;
-                file.push_str(beside.behind.as_str())?;
-            }
-            Way::InPlace(here) => file.push_str(here.place.as_str())?,
-        }
+        let mut file = String::from_str(alloc, self.path.as_str())?;
+        file.push_str(self.behind.as_str())?;
         file.push('/')?;
         file.push_str(path)?;
         Ok(file)
-    }
-}
-
-impl InPlace {
-    /// Remembers what is made there with a file that has this path.
-    fn remember(&mut self, alloc: Global, path: &str) -> Result<(), AllocError> {
-        let name = match path.split_once('/') {
-            Some((folder, _)) => folder,
-            None => path,
-        };
-        if !self.names.iter().any(|other| other.as_str() == name) {
-            self.names.push(String::from_str(alloc, name)?)?;
-        }
-        Ok(())
     }
 }
 
@@ -353,11 +337,14 @@ impl<'a, S: Files> OutFolder<'a, S> {
     fn make(&mut self, path: &str, bytes: &[u8]) -> Result<bool, AllocError>
         ensures { self.new.refusals ≡ self.old.refusals }
     {
-        let file = self.way.path_of(self.alloc, path)?;
-        if let Way::InPlace(here) = &mut self.way {
-            here.remember(self.alloc, path)?;
-        }
-        let made = make_whole(self.system, file.as_str(), bytes);
+        let made = match &mut self.way {
+            Way::Beside(beside) => {
+                let file = beside.path_of(self.alloc, path)?;
+                make_new(self.system, file.as_str(), bytes)
+            }
+            Way::InPlace(here) => here.make(self.system, self.alloc, path, bytes)?,
+            Way::Taken => Err(Error::from(ErrorKind::DirectoryNotEmpty)),
+        };
         self.cause = cause_in(&made);
         Ok(given(made)?.is_some())
     }
@@ -372,15 +359,7 @@ impl<'a, S: Files> OutFolder<'a, S> {
         match &self.way {
             Way::Beside(beside) => beside.finish(self.system, self.alloc),
             Way::InPlace(_) => Ok(()),
-        }
-    }
-
-    /// Removes what was made in place with a name.
-    fn remove(&self, name: &str) {
-        if let Ok(path) = self.way.path_of(self.alloc, name) {
-            if self.system.remove_file(path.as_str()).is_err() {
-                let _ = self.system.remove_dir_all(self.alloc, path.as_str());
-            }
+            Way::Taken => Err(Error::from(ErrorKind::DirectoryNotEmpty)),
         }
     }
 
@@ -390,14 +369,8 @@ impl<'a, S: Files> OutFolder<'a, S> {
             Way::Beside(beside) => {
                 let _ = self.system.remove_dir_all(self.alloc, beside.path.as_str());
             }
-            Way::InPlace(here) => {
-                for name in &here.names {
-                    self.remove(name.as_str());
-                }
-                if !here.was_there {
-                    let _ = self.system.remove_dir(here.place.as_str());
-                }
-            }
+            Way::InPlace(here) => here.leave(self.system),
+            Way::Taken => {}
         }
     }
 }

@@ -3,13 +3,12 @@
 ghost use Rattle.std.specs.Prelude.{◌≡◌, ◌≤◌, None, length, IfOk};
 
 use crate::cause::{Cause, Caused};
-use crate::out_way::Way;
+use crate::out_way::{Way, sync};
 use crate::system_stream::cause_in;
 use std::fs::File;
 use std::io;
-use std::io::Write;
 use std::rt::Files;
-use streams::{Failed, Sink};
+use streams::{Failed, Sink, write_again};
 
 /// What is to be in a file. It is made at the first write: as another file beside it, or, if that can't be, as the
 /// file itself. What it holds isn't known. It is none of the standard streams, even where these are closed.
@@ -18,6 +17,7 @@ pub struct OutPart<'a, S: Files> {
     system: &'a S,
     path: &'a str,
     way: Way,
+    syncs: bool,
     held: [Option<S::File>; 3],
     file: Option<S::File>,
     failures: u64,
@@ -25,8 +25,8 @@ pub struct OutPart<'a, S: Files> {
 }
 
 impl<'a, S: Files> OutPart<'a, S> {
-    /// The part of the file with a path, which isn't made yet.
-    pub(crate) fn new(system: &'a S, path: &'a str, way: Way) -> OutPart<'a, S>
+    /// The part of the file with a path, which isn't made yet. If `syncs`, the disk is to have it before it is put.
+    pub(crate) fn new(system: &'a S, path: &'a str, way: Way, syncs: bool) -> OutPart<'a, S>
         ensures failures { result.failures ≡ 0 }
         ensures unmade { result.file ≡ None }
     {
@@ -34,6 +34,7 @@ impl<'a, S: Files> OutPart<'a, S> {
             system,
             path,
             way,
+            syncs,
             held: [None, None, None],
             file: None,
             failures: 0,
@@ -65,17 +66,20 @@ impl<'a, S: Files> OutPart<'a, S> {
             self.make()?;
         }
         match &mut self.file {
-            Some(file) => file.write(bytes),
+            Some(file) => write_again(file, bytes),
             None => Ok(0),
         }
     }
 
-    /// Brings the file to its place, which is made if it isn't yet.
+    /// Brings the file to its place, which is made if it isn't yet. The disk has it before, if it is to.
     pub(crate) fn finish(&mut self) -> io::Result<()> {
         if self.file.is_none() {
             self.make()?;
         }
-        self.way.finish(self.system)
+        if let (Some(file), true) = (&self.file, self.syncs) {
+            sync(file)?;
+        }
+        self.way.finish(self.system, self.syncs)
     }
 
     /// Removes the file, if it was made and isn't at its place.

@@ -75,6 +75,15 @@ pub(crate) fn front_of(alloc: Global, path: &str, name: &str) -> Result<String, 
     Ok(front)
 }
 
+/// The disk has what was written to a file, or the entries of a folder (POSIX, `fsync`). What no disk has, as a pipe,
+/// isn't waited for: the system says of it that the call means nothing there.
+pub(crate) fn sync<F: OpenFile>(file: &F) -> io::Result<()> {
+    match file.sync_all() {
+        Err(error) if error.kind() == ErrorKind::InvalidInput => Ok(()),
+        done => done,
+    }
+}
+
 /// A path is the one with a front and a number.
 pub(crate) fn put_number(path: &mut String, front: &str, number: u32) -> Result<(), AllocError> {
     path.clear();
@@ -140,11 +149,11 @@ impl Way {
         fs::create(system, path)
     }
 
-    /// Brings the file that was made to its place.
-    pub(crate) fn finish<S: Files>(&self, system: &S) -> io::Result<()> {
+    /// Brings the file that was made to its place. If `syncs`, the disk has it there then.
+    pub(crate) fn finish<S: Files>(&self, system: &S, syncs: bool) -> io::Result<()> {
         match self {
             Way::InPlace => Ok(()),
-            Way::Beside(beside) => beside.finish(system),
+            Way::Beside(beside) => beside.finish(system, syncs),
         }
     }
 
@@ -215,18 +224,32 @@ impl Beside {
     }
 
     /// Moves it to the place. If that isn't allowed, the bytes are written there.
-    fn finish<S: Files>(&self, system: &S) -> io::Result<()> {
+    fn finish<S: Files>(&self, system: &S, syncs: bool) -> io::Result<()> {
         match system.rename(self.path.as_str(), self.place.as_str()) {
-            Err(error) if self.there.is_some() && is_closed(&error) => self.copy(system),
+            Err(error) if self.there.is_some() && is_closed(&error) => self.copy(system, syncs),
+            Ok(()) if syncs => self.sync_folder(system),
             moved => moved,
         }
     }
 
+    /// The disk has the entries of the folder that the place is in.
+    fn sync_folder<S: Files>(&self, system: &S) -> io::Result<()> {
+        let folder = match self.place.rsplit_once('/') {
+            Some(("", _)) => "/",
+            Some((folder, _)) => folder,
+            None => ".",
+        };
+        sync(&File::open(system, folder)?)
+    }
+
     /// Writes its bytes to what is there.
-    fn copy<S: Files>(&self, system: &S) -> io::Result<()> {
+    fn copy<S: Files>(&self, system: &S, syncs: bool) -> io::Result<()> {
         let mut made = File::open(system, self.path.as_str())?;
         let mut there = fs::create(system, self.place.as_str())?;
         io::copy(&mut made, &mut there)?;
+        if syncs {
+            sync(&there)?;
+        }
         self.remove(system);
         Ok(())
     }

@@ -6,14 +6,15 @@ use crate::found::path_in;
 use crate::listing::FolderIdentity;
 use crate::look_again::PassedOver;
 use crate::system_folders::{front_of, identity_of, seen, shown_name};
+use crate::unread_entry::push_character;
 use crate::walk::meet;
 use globs::is_excluded;
 use std::alloc::{AllocError, Global};
 use std::fmt::Write;
 use std::fs::{File, FileType};
 use std::io;
-use std::io::Read;
 use std::rt::Files;
+use streams::read_again;
 
 /// So many bytes of a folder's names are read at once.
 const NAMES_LENGTH: usize = 16_384;
@@ -48,10 +49,12 @@ fn push_escaped(out: &mut String, bytes: &[u8]) -> Result<(), AllocError> {
     Ok(())
 }
 
-/// Appends a name, with its bytes that aren't UTF-8 in the form `\xe9`.
+/// Appends a name, with its bytes that aren't UTF-8 and its control characters in the form `\xe9`.
 pub(crate) fn push_name(out: &mut String, name: &[u8]) -> Result<(), AllocError> {
     for chunk in name.utf8_chunks() {
-        out.push_str(chunk.valid())?;
+        for character in chunk.valid().chars() {
+            push_character(out, character)?;
+        }
         push_escaped(out, chunk.invalid())?;
     }
     Ok(())
@@ -183,7 +186,7 @@ impl<'a, S: Files> SecondLook<'a, S> {
         let mut buffer = [0u8; NAMES_LENGTH];
         // A bound for the proof: the names end.
         for _ in 0..usize::MAX {
-            match folder.read(&mut buffer) {
+            match read_again(&mut folder, &mut buffer) {
                 Ok(0) => break,
                 Ok(count) => self.see_each(front, &buffer[..count])?,
                 Err(error) => return Ok(Err(error)),
@@ -211,11 +214,16 @@ impl<'a, S: Files> SecondLook<'a, S> {
         if matches!(name, b"" | b"." | b"..") {
             return Ok(());
         }
-        let shown = shown_name(self.alloc, name)?;
-        self.see_shown(front, shown.as_str(), str::from_utf8(name).is_ok())
+        match str::from_utf8(name) {
+            Ok(name) => self.see_shown(front, name, true),
+            Err(_) => {
+                let shown = shown_name(self.alloc, name)?;
+                self.see_shown(front, shown.as_str(), false)
+            }
+        }
     }
 
-    /// Sees an entry whose name is shown so, and is UTF-8 or not, if it isn't excluded.
+    /// Sees an entry with a name, or whose name, which isn't UTF-8, is shown so, if it isn't excluded.
     fn see_shown(&mut self, front: &str, shown: &str, is_utf8: bool) -> Result<(), AllocError> {
         if self.is_passed(front, shown)? {
             return Ok(());
@@ -264,7 +272,7 @@ impl<'a, S: Files> SecondLook<'a, S> {
 fn read_byte<S: Files>(system: &S, path: &str) -> io::Result<()> {
     let mut file = File::open(system, path)?;
     let mut room = [0u8; 1];
-    file.read(&mut room)?;
+    read_again(&mut file, &mut room)?;
     Ok(())
 }
 

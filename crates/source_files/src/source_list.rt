@@ -16,6 +16,7 @@ ghost use Rattle.source_files.specs.SourceLists.{
 use source_tree::{MAX_FILES, is_good_path};
 use std::alloc::{AllocError, Global};
 use std::marker::Model;
+use thiserror::Error;
 
 /// The most bytes of a list.
 pub const MAX_LIST_LENGTH: usize = 67_108_864;
@@ -41,17 +42,22 @@ impl Model for ListedPath {
 }
 
 /// Why a list names no sources.
-#[derive(Clone, Copy, Debug, PartialEq, Eq)]
+#[derive(Clone, Copy, Debug, Drop, PartialEq, Eq, Error)]
 pub enum ListFault {
     /// It has more than `MAX_LIST_LENGTH` bytes.
+    #[error("a list of sources has more than {most} bytes", most = MAX_LIST_LENGTH)]
     TooLong,
     /// The line with this number, from 1, isn't UTF-8. The first of them.
+    #[error("line {0} isn't UTF-8")]
     NotUtf8(usize),
     /// The line with this number, from 1, is no good path. The first of them.
+    #[error("line {0} isn't a good path")]
     BadPath(usize),
     /// It names more paths than a tree has files.
+    #[error("a list names more than {most} paths", most = MAX_FILES)]
     TooMany,
     /// Memory ran out.
+    #[error("memory ran out")]
     Memory,
 }
 

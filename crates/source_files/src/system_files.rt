@@ -10,15 +10,22 @@ use crate::read_files::ReadFiles;
 use crate::reading::path_below;
 use crate::second_look::{SecondLook, why_unread};
 use crate::system_folders::entries_of;
+use proto_lex::MAX_TEXT_LENGTH;
 use source_tree::read_source;
 use std::alloc::{AllocError, Global};
-use std::fs::File;
-use std::io::ErrorKind;
+use std::fs::{File, OpenFile};
+use std::io::{Error, ErrorKind, Read};
 use std::rt::Files;
 use std::{fs, io};
 use streams::Std;
 
-/// The system's files. Nothing is known of what they hold.
+/// The most bytes of a file that is read whole: those that an index may have.
+const MOST_BYTES: u64 = 2_147_483_647;
+
+/// One byte more than a source may have: by these it is known to be too long, and no more are read.
+const MOST_OF_SOURCE: u64 = MAX_TEXT_LENGTH as u64 + 1;
+
+/// The system's files. Nothing is known of what they hold. One of more than `MOST_BYTES` bytes can't be read whole.
 #[derive(Drop)]
 pub struct SystemFiles<'a, S: Files + AllocGlobal + Clone + Drop> {
     system: &'a S,
@@ -53,6 +60,21 @@ pub(crate) fn given<T: Drop>(answer: io::Result<T>) -> Result<Option<T>, AllocEr
     }
 }
 
+/// The bytes of the file with a path, if it hasn't too many: of a regular file, that is seen before it is read.
+fn whole_file<S: Files + AllocGlobal>(system: &S, path: &str) -> io::Result<Vec<u8>> {
+    let file = File::open(system, path)?;
+    let there = file.metadata()?;
+    if there.is_file() && there.len() > MOST_BYTES {
+        return Err(Error::from(ErrorKind::FileTooLarge));
+    }
+    let mut bytes = Vec::new(system.alloc());
+    file.take(MOST_BYTES + 1).read_to_end(&mut bytes)?;
+    if bytes.len() as u64 > MOST_BYTES {
+        return Err(Error::from(ErrorKind::FileTooLarge));
+    }
+    Ok(bytes)
+}
+
 impl<'a, S: Files + AllocGlobal + Clone + Drop> ReadFiles for SystemFiles<'a, S> {
     ghost use Rattle.std.specs.Prelude.{⊤};
 
@@ -83,12 +105,12 @@ impl<'a, S: Files + AllocGlobal + Clone + Drop> ReadFiles for SystemFiles<'a, S>
     }
 
     fn read_file(&self, _alloc: Global, path: &str) -> Result<Option<Vec<u8>>, AllocError> {
-        given(fs::read(self.system, path))
+        given(whole_file(self.system, path))
     }
 
     fn read_source(&self, alloc: Global, path: &str) -> Result<Option<Vec<u8>>, AllocError> {
         match given(File::open(self.system, path))? {
-            Some(file) => read_source(alloc, &mut Std::new(file)),
+            Some(file) => read_source(alloc, &mut Std::new(file.take(MOST_OF_SOURCE))),
             None => Ok(None),
         }
     }

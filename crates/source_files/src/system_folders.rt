@@ -8,10 +8,11 @@ use crate::second_look::push_name;
 use crate::unread_entry::UnreadEntry;
 use std::alloc::{AllocError, Global};
 use std::fs::{FileType, Metadata};
-use std::io::{Error, ErrorKind, Read};
+use std::io::{Error, ErrorKind};
 use std::os::unix::fs::MetadataExt;
 use std::rt::Files;
 use std::{fs, io};
+use streams::read_again;
 
 /// So many bytes of a folder's names are read at once.
 const NAMES_LENGTH: usize = 16_384;
@@ -43,7 +44,7 @@ fn is_of_no_folder(error: &Error) -> bool {
     )
 }
 
-/// A name, with each byte that isn't UTF-8 in the form `\xe9`.
+/// A name, with each byte that isn't UTF-8, and each control character, in the form `\xe9`.
 pub(crate) fn shown_name(alloc: Global, name: &[u8]) -> Result<String, AllocError> {
     let mut text = String::new(alloc);
     push_name(&mut text, name)?;
@@ -110,7 +111,7 @@ impl Listing {
         let mut buffer = [0u8; NAMES_LENGTH];
         // A bound for the proof: the names end.
         for _ in 0..usize::MAX {
-            let count = folder.read(&mut buffer)?;
+            let count = read_again(&mut folder, &mut buffer)?;
             if count == 0 {
                 break;
             }

@@ -7,11 +7,11 @@ ghost use Rattle.source_files.specs.Causes.{cause_of};
 use crate::cause::{Cause, Caused};
 use std::io;
 use std::io::Write;
-use streams::{Failed, Sink};
+use streams::{Failed, Sink, write_again};
 
 /// A writer of `std::io` that is a `Sink`, and says why its last write failed.
 ///
-/// An interrupted call is a failure as any other, and isn't repeated.
+/// A call that a signal interrupts is made again.
 #[derive(Debug, Drop)]
 pub struct SystemStream<T> {
     inner: T,
@@ -58,7 +58,7 @@ impl<W: Write> Sink for SystemStream<W> {
     ghost failures = { λ s. s.failures };
 
     fn write(&mut self, bytes: &[u8]) -> Result<usize, Failed> {
-        let result = self.inner.write(bytes);
+        let result = write_again(&mut self.inner, bytes);
         self.cause = cause_in(&result);
         let failed = match &result {
             Ok(count) => *count == 0 && !bytes.is_empty(),

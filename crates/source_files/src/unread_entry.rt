@@ -21,8 +21,7 @@ use std::alloc::{AllocError, Global};
 /// They are in order of what is shown of them.
 #[derive(Debug, PartialEq, Eq, PartialOrd, Ord, Drop)]
 pub struct UnreadEntry {
-    /// What is shown of its name or path: each byte that isn't UTF-8, and of a bad path each control character, is in the
-    /// form `\xe9`.
+    /// What is shown of its name or path: each byte that isn't UTF-8, and each control character, is in the form `\xe9`.
     pub shown: String,
     /// Its name or path.
     pub bytes: Vec<u8>,
@@ -31,18 +30,6 @@ pub struct UnreadEntry {
     pub folder: Option<FolderIdentity>,
     /// Whether its path is no good one; else it can't be read, or its name isn't UTF-8.
     pub has_bad_path: bool,
-}
-
-/// What has a path and can't be read.
-pub(crate) fn entry_at(alloc: Global, path: &str) -> Result<UnreadEntry, AllocError>
-    ensures { IfOk result (λ entry. unread_of entry ≡ at_path path.now) }
-{
-    Ok(UnreadEntry {
-        shown: String::from_str(alloc, path)?,
-        bytes: Vec::from_slice(alloc, path.as_bytes())?,
-        folder: None,
-        has_bad_path: false,
-    })
 }
 
 /// Appends a hexadecimal digit.
@@ -64,7 +51,7 @@ fn push_escape(out: &mut String, character: u32) -> Result<(), AllocError>
 }
 
 /// Appends a character of a path, or its escape.
-fn push_character(out: &mut String, character: char) -> Result<(), AllocError>
+pub(crate) fn push_character(out: &mut String, character: char) -> Result<(), AllocError>
     ensures { OnOk result (string_bytes out.new ≡ string_bytes out.old ++ shown_character character) }
 {
     let number = character as u32;
@@ -84,6 +71,18 @@ fn shown_path(alloc: Global, path: &str) -> Result<String, AllocError>
         push_character(&mut shown, character)?;
     }
     Ok(shown)
+}
+
+/// What has a path and can't be read.
+pub(crate) fn entry_at(alloc: Global, path: &str) -> Result<UnreadEntry, AllocError>
+    ensures { IfOk result (λ entry. unread_of entry ≡ at_path path.now) }
+{
+    Ok(UnreadEntry {
+        shown: shown_path(alloc, path)?,
+        bytes: Vec::from_slice(alloc, path.as_bytes())?,
+        folder: None,
+        has_bad_path: false,
+    })
 }
 
 /// What has a path that is no good one.
@@ -106,7 +105,7 @@ pub(crate) fn entry_in(
 ) -> Result<UnreadEntry, AllocError>
     ensures { IfOk result (λ entry. unread_of entry ≡ in_folder folder.now (unread_of named.now)) }
 {
-    let mut shown = String::from_str(alloc, folder)?;
+    let mut shown = shown_path(alloc, folder)?;
     shown.push_str(named.shown.as_str())?;
     let mut bytes = Vec::from_slice(alloc, folder.as_bytes())?;
     bytes.extend_from_slice(&named.bytes)?;

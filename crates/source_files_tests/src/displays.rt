@@ -1,8 +1,9 @@
 //! How faults are displayed.
 
 use crate::roots::see;
-use source_files::LoadFault;
+use source_files::{ListFault, LoadFault};
 use std::alloc::{AllocError, Global};
+use std::fmt::Display;
 use std::test::Fail;
 
 /// What the faults are displayed as, in the order of `fault_of`.
@@ -26,7 +27,7 @@ fn fault_of(number: usize, path: String) -> LoadFault {
 }
 
 /// Whether a fault is displayed as this sentence.
-fn is_displayed(alloc: Global, fault: &LoadFault, sentence: &str) -> Result<bool, AllocError> {
+fn is_displayed<F: Display>(alloc: Global, fault: &F, sentence: &str) -> Result<bool, AllocError> {
     let text = format!(in alloc; "{fault}")?;
     Ok(text.as_str() == sentence)
 }
@@ -42,6 +43,26 @@ fn load_faults_are_displayed_as_sentences(rt: HostRuntime) -> Result<(), Fail> {
     for (number, sentence) in SENTENCES.iter().enumerate() {
         let is = is_displayed_of(rt.alloc(), number, *sentence)?;
         see(&rt, is, sentence);
+    }
+    Ok(())
+}
+
+/// Faults of a list, and what they are displayed as.
+const LISTS: [(ListFault, &str); 5] = [
+    (
+        ListFault::TooLong,
+        "a list of sources has more than 67108864 bytes",
+    ),
+    (ListFault::NotUtf8(3), "line 3 isn't UTF-8"),
+    (ListFault::BadPath(4), "line 4 isn't a good path"),
+    (ListFault::TooMany, "a list names more than 65536 paths"),
+    (ListFault::Memory, "memory ran out"),
+];
+
+#[test]
+fn list_faults_are_displayed_as_sentences(rt: HostRuntime) -> Result<(), Fail> {
+    for (fault, sentence) in &LISTS {
+        see(&rt, is_displayed(rt.alloc(), fault, *sentence)?, *sentence);
     }
     Ok(())
 }

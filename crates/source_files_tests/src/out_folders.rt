@@ -224,3 +224,56 @@ fn made_in_place(rt: HostRuntime) -> Result<(), Fail> {
     see(&rt, is_removed, "removed");
     Ok(see_stays(&rt, rt.alloc(), &mut places)?)
 }
+
+/// Sees that a folder isn't put in the place of one with an entry, and that this one stays.
+fn see_refused<R: Files + Abort, P: FolderPlace>(rt: &R, places: &mut P, folder: P::Folder) {
+    see(rt, places.put_folder("mine", folder).is_err(), "refused");
+    see(rt, holds(rt, "mine/d", b"mine"), "what is there stays");
+}
+
+/// Another one makes a file in an empty folder: before a folder for it is begun, and behind that.
+#[test]
+fn another_one_is_first(rt: HostRuntime) -> Result<(), Fail> {
+    let mut places = OutFile::new(&rt, "");
+    for is_before in &[true, false] {
+        fs::create_dir(&rt, "mine")?;
+        if *is_before {
+            fs::write(&rt, "mine/d", "mine")?;
+        }
+        if let Some(mut folder) = folder_of(rt.alloc(), &places, "mine") {
+            let made = is_made(&mut folder, "e/a", b"abc");
+            see(&rt, made != *is_before, "made, or not");
+            fs::write(&rt, "mine/d", "mine")?;
+            see_refused(&rt, &mut places, folder);
+        }
+        remove_again(&rt, "mine")?;
+    }
+    Ok(())
+}
+
+/// Sees that files which others have made in place aren't replaced, nor removed with those that are made.
+fn see_others<R: Files + Abort, P: FolderPlace>(
+    rt: &R,
+    alloc: Global,
+    places: &P,
+) -> io::Result<()> {
+    let Some(mut folder) = folder_of(alloc, places, ".") else {
+        return Ok(());
+    };
+    fs::write(rt, "top", "mine")?;
+    see(rt, !is_made(&mut folder, "top", b"abc"), "not made");
+    see(rt, is_made(&mut folder, "below/a", b"abc"), "made");
+    fs::write(rt, "below/b", "mine")?;
+    places.leave_folder(folder);
+    see(rt, holds(rt, "top", b"mine"), "it stays");
+    see(rt, holds(rt, "below/b", b"mine"), "and below");
+    see(rt, !holds(rt, "below/a", b"abc"), "what was made goes");
+    fs::remove_file(rt, "top")
+}
+
+#[test]
+fn what_others_make_in_place_stays(rt: HostRuntime) -> Result<(), Fail> {
+    see_others(&rt, rt.alloc(), &OutFile::new(&rt, ""))?;
+    let _ = remove_again(&rt, "below");
+    Ok(())
+}

@@ -33,11 +33,13 @@ impl Write for Failing {
 }
 
 /// How a write fails, if it does, and why that is said to be.
-const CAUSES: [(Option<ErrorKind>, Option<Cause>); 5] = [
+const CAUSES: [(Option<ErrorKind>, Option<Cause>); 7] = [
     (None, None),
     (Some(ErrorKind::BrokenPipe), Some(Cause::ClosedPipe)),
     (Some(ErrorKind::StorageFull), Some(Cause::NoSpace)),
     (Some(ErrorKind::PermissionDenied), Some(Cause::NotAllowed)),
+    (Some(ErrorKind::AlreadyExists), Some(Cause::IsThere)),
+    (Some(ErrorKind::DirectoryNotEmpty), Some(Cause::NotEmpty)),
     (Some(ErrorKind::Deadlock), Some(Cause::Other)),
 ];
 

@@ -1,4 +1,4 @@
-use Rattle.std.proofs.Common.{◌∙◌, List, ℕ, ap, length, map, string_bytes, subst, sym}
+use Rattle.std.proofs.Common.{◌∙◌, List, ap, map, string_bytes, subst, sym}
 use Rattle.std.proofs.lemmas.List.{length-map}
 use Rattle.std.proofs.lemmas.Result.{err_from_is_err_and}
 use Rattle.source_files.specs.Closures.{Gathered}

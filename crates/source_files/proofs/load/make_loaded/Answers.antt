@@ -2,7 +2,7 @@ use Rattle.std.proofs.Common.{◌∙◌, ◌++◌, List, ap, map}
 use Rattle.std.proofs.lemmas.Result.{err_from_is_err_and}
 use Rattle.source_tree.specs.Files.{SourceFile}
 use Rattle.source_files.specs.Roots.{FilesBelow, all_unread, files_of}
-use Rattle.source_files.specs.Unread.{Unread, unread_of}
+use Rattle.source_files.specs.Unread.{unread_of}
 use Rattle.source_files.proofs.TakenLemmas.{are_loaded, not_loaded}
 use Rattle.source_files.proofs.load.make_loaded.Goals as goal
 

@@ -1,4 +1,3 @@
-use Rattle.std.proofs.Common.{◌∙◌, append-nil, sym}
 use Rattle.std.proofs.lemmas.Str.{IsUtf8-past_char}
 use Rattle.source_files.proofs.UnreadEntryLemmas.{shown_empty, shown_step}
 use Rattle.source_files.proofs.unread_entry.shown_path.Goals as goal

@@ -1,0 +1,2 @@
+pub mod BracedLemmas
+pub mod ServiceLemmas

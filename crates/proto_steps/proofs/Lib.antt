@@ -1,0 +1,18 @@
+-- The laws of all steps
+pub mod TurnLemmas
+pub mod StepLaws
+pub mod FirstLemmas
+pub mod FinishLemmas
+pub mod FrontLemmas
+pub mod MoveLemmas
+pub mod SteadyLemmas
+pub mod SteadyFieldLemmas
+pub mod SteadyFileLemmas
+-- Dialects
+pub mod AmongLemmas
+pub mod AmongFileLemmas
+-- Loops of the parser
+pub mod LoopLemmas
+-- The grammar beside the parser's functions on tokens
+pub mod AgreeLemmas
+pub mod ServiceLemmas

@@ -1,0 +1,4 @@
+-- what is inside statements
+pub mod Parts
+-- statements, and what a file is
+pub mod Definitions

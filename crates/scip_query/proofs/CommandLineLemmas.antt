@@ -10,9 +10,9 @@ use Rattle.scip_query.specs.Commands.{command_lines, max_command_length}
 use Rattle.scip_query.specs.CommandReading.{command_of}
 use Rattle.scip_query.specs.MoreCommandReading.{more_command_of}
 use Rattle.scip_query.specs.AnswerText.{answer_or_refusal}
-use Rattle.scip_query.specs.MoreAnswers.{Asked, more_or_refusal, spoken, reply_in, reply_to}
+use Rattle.scip_query.specs.MoreAnswers.{Asked, more_or_refusal, json_or_refusal, spoken, reply_in, reply_to}
 use Rattle.scip_query.specs.declared.manner.Manner.{Manner}
-use Rattle.scip_query.specs.declared.manner.Manner.TheVariants.{Plain, More, Spoken}
+use Rattle.scip_query.specs.declared.manner.Manner.TheVariants.{Plain, More, Spoken, Json}
 use Rattle.scip_query.specs.Conversing.{is_line_end}
 use Rattle.scip_query.specs.Tables.ConversingSteps.{kept_line, kept_with}
 
@@ -122,6 +122,7 @@ kept_answer asked line = by asked.manner where
   by Spoken =
       ap (λ command. spoken (more_or_refusal asked.index command))
       (kept_enough max_command_length line more_command_of None)
+  by Json = ap (json_or_refusal asked.index) (kept_enough max_command_length line more_command_of None)
 
 -- nothing is kept of the empty line alone
 kept_some : (m b : ℕ) (line : List ℕ) → take (m + 1) (b ∷ line) ≡ [] → ⊥

@@ -5,10 +5,9 @@ use Rattle.std.specs.Cmp.{IsTotalOrder}
 use Rattle.std.specs.List.{flat_map, enumerate_from}
 use Rattle.std.proofs.lemmas.Cmp.{on_total, then_total, nat_cmp_total, nat_list_cmp_total}
 use Rattle.std.proofs.lemmas.List.{drop_all}
-use Rattle.scip_records.specs.declared.records.Index.{Index}
 use Rattle.scip_records.specs.declared.records.Document.{Document}
 use Rattle.scip_query.specs.Sites.{Numbered}
-use Rattle.scip_query.specs.Finding.{Found, found_in, all_found, found_cmp}
+use Rattle.scip_query.specs.Finding.{Found, found_cmp}
 use Rattle.scip_query.specs.Tables.Searches.{numbered_from}
 use Rattle.scip_query.proofs.TableLemmas.{left_at}
 
@@ -28,27 +27,23 @@ numbered_on : (number : ℕ) (documents : List Document) (document : Document) �
 numbered_on number documents document inside is =
     ap (λ l. map as_numbered (enumerate_from number l)) (left_at documents number document inside is)
 
--- one document more
-pub found_on : (index : Index) (text : List ℕ) (number : ℕ) (documents : List Document) (document : Document)
-    (before after : List Found) → number < length documents → document ≡ get_or documents number document
-    → after ≡ before ++ found_in index text (record { number = number; document = document })
-    → after ++ flat_map (found_in index text) (numbered_from (number + 1) documents)
-    ≡ before ++ flat_map (found_in index text) (numbered_from number documents)
-found_on index text number documents document before after inside is put =
-    let rest = flat_map (found_in index text) (numbered_from (number + 1) documents) in
+-- of what is found in each document, one document more
+pub found_on : {X : Type 0} (f : Numbered → List X) (number : ℕ) (documents : List Document) (document : Document)
+    (before after : List X) → number < length documents → document ≡ get_or documents number document
+    → after ≡ before ++ f (record { number = number; document = document })
+    → after ++ flat_map f (numbered_from (number + 1) documents) ≡ before ++ flat_map f (numbered_from number documents)
+found_on f number documents document before after inside is put =
+    let rest = flat_map f (numbered_from (number + 1) documents) in
     ap (λ l. l ++ rest) put
-    ∙ append_assoc before (found_in index text (record { number = number; document = document })) rest
-    ∙ ap (λ l. before ++ flat_map (found_in index text) l) (sym (numbered_on number documents document inside is))
+    ∙ append_assoc before (f (record { number = number; document = document })) rest
+    ∙ ap (λ l. before ++ flat_map f l) (sym (numbered_on number documents document inside is))
 
 -- all documents
-pub found_all : (index : Index) (text : List ℕ) (documents : List Document) (found : List Found) (number : ℕ)
-    → length documents ≤ number
-    → found ++ flat_map (found_in index text) (numbered_from number documents) ≡ all_found index text
-    → found ≡ all_found index text
-found_all index text documents found number past e =
+pub found_all : {X : Type 0} (f : Numbered → List X) (documents : List Document) (found all : List X) (number : ℕ)
+    → length documents ≤ number → found ++ flat_map f (numbered_from number documents) ≡ all → found ≡ all
+found_all f documents found all number past e =
     sym (append-nil found)
-    ∙ ap (λ l. found ++ flat_map (found_in index text) (map as_numbered (enumerate_from number l)))
-    (sym (drop_all number documents past))
+    ∙ ap (λ l. found ++ flat_map f (map as_numbered (enumerate_from number l))) (sym (drop_all number documents past))
     ∙ e
 
 -- the first few, as a view shows them

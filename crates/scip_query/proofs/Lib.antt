@@ -1,6 +1,6 @@
 -- Each file is named after the spec or source that it serves.
--- Texts of what is found
-mod AnswerLemmas
+-- Answers, and their texts
+pub mod AnswerLemmas
 -- The grammar of commands
 mod CommandGrammarLemmas
 -- The command of a line is what the grammar says
@@ -21,9 +21,13 @@ mod OutcomeLemmas
 mod RunLemmas
 -- Symbol entries and their places
 mod SearchEntryLemmas
+-- Answers in JSON have no floats, and are read back
+pub mod JsonLemmas
+-- What a test keeps of occurrences and entries, one after another
+pub mod NamedLemmas
 -- What a text finds: the order, and the documents one after another
-mod FindingLemmas
--- Texts of outlines, and of one text or none
+pub mod FindingLemmas
+-- Texts of outlines
 mod MoreAnswerLemmas
 -- The grammar of more commands
 mod MoreCommandLemmas

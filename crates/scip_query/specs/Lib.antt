@@ -15,6 +15,7 @@ pub mod Kinds
 pub mod Outline
 pub mod Names
 pub mod Finding
+pub mod Named
 pub mod Outcomes
 -- commands
 pub mod Commands
@@ -22,8 +23,11 @@ pub mod CommandReading
 pub mod CommandViews
 pub mod MoreCommands
 pub mod MoreCommandReading
+pub mod AskedInLine
 -- their answers
+pub mod Answers
 pub mod AnswerText
+pub mod JsonAnswers
 pub mod MoreAnswers
 pub mod MoreViews
 pub mod Answering

@@ -7,16 +7,21 @@ use Rattle.std.specs.Fmt.{decimal}
 use Rattle.scip_records.specs.Range.{RangeNumbers}
 use Rattle.scip_records.specs.Texts.{unless_empty}
 use Rattle.scip_records.specs.declared.records.Index.{Index}
-use Rattle.scip_query.specs.AnswerText.{line_end, line_of, quoted, listing, answer_of, answer_to}
+use Rattle.scip_query.specs.AnswerText.{line_end, line_of, site_line, symbol_line, quoted, miss_text, listing}
+use Rattle.scip_query.specs.AnswerText.{answer_of, answer_to}
+use Rattle.scip_query.specs.Answers.{Answer, Sites, Texts, Entries, Outlines, Finds, Misses, help_text, more_given_to}
+use Rattle.scip_query.specs.JsonAnswers.{answer_value, error_value, json_line}
 use Rattle.scip_query.specs.Commands.{space, max_command_length, command_lines}
-use Rattle.scip_query.specs.MoreCommands.{MoreCommand, Known, Signature, Outline, Find, Help}
+use Rattle.scip_query.specs.MoreCommands.{MoreCommand, Known, Signature, Outline, Find, Help, Entry, Named}
 use Rattle.scip_query.specs.MoreCommandReading.{more_command_of}
 use Rattle.scip_query.specs.Entries.{signature_at}
 use Rattle.scip_query.specs.Kinds.{kind_text}
 use Rattle.scip_query.specs.Outline.{Outlined, outline_of}
 use Rattle.scip_query.specs.Finding.{Found, found_by}
+use Rattle.scip_query.specs.Named.{definitions_named, references_named, entries_named, entries_at}
+use Rattle.scip_query.specs.declared.command.Question.TheVariants.{Definitions, References, Documentation}
 use Rattle.scip_query.specs.declared.manner.Manner.{Manner}
-use Rattle.scip_query.specs.declared.manner.Manner.TheVariants.{Plain, More, Spoken}
+use Rattle.scip_query.specs.declared.manner.Manner.TheVariants.{Plain, More, Spoken, Json}
 
 -- two spaces for each level
 abbrev pub indent : ℕ → List ℕ
@@ -35,18 +40,6 @@ outline_line o = indent o.depth ++ definition_line o.occurrence.range (kind_text
 abbrev pub found_lines : Found → List ℕ
 found_lines f = line_of f.occurrence.range f.occurrence.symbol_roles f.path ++ f.occurrence.symbol ++ line_end
 
-abbrev pub help_text : List ℕ
-help_text =
-    codes "def L C PATH: where the symbol at a position is defined; lines and columns count from 0\n"
-    ++ codes "ref L C PATH: where it occurs\n"
-    ++ codes "doc L C PATH: its documentation\n"
-    ++ codes "sig L C PATH: how it is declared\n"
-    ++ codes "sym PATH: the symbols of a file\n"
-    ++ codes "out PATH: its definitions, in order of place\n"
-    ++ codes "find TEXT: definitions by name, or the end of a full name, or how one begins\n"
-    ++ codes "pos PATH:LINE:COL: as def; lines and columns count from 1\n"
-    ++ codes "help: these lines"
-
 abbrev pub more_answer_of : Index → MoreCommand → List ℕ
 more_answer_of index (Known command) = answer_of index command
 more_answer_of index (Signature p path) =
@@ -54,6 +47,19 @@ more_answer_of index (Signature p path) =
 more_answer_of index (Outline path) = listing outline_line (outline_of index path)
 more_answer_of index (Find text) = listing found_lines (Ok (found_by index text))
 more_answer_of index Help = listing quoted (Ok (help_text ∷ []))
+more_answer_of index (Entry p path) = listing symbol_line (entries_at index path p)
+more_answer_of index (Named Definitions name) = listing site_line (Ok (definitions_named index name))
+more_answer_of index (Named References name) = listing site_line (Ok (references_named index name))
+more_answer_of index (Named Documentation name) = listing symbol_line (Ok (entries_named index name))
+
+-- the text of any answer: for the answer to a command it is that text (a law of the crate)
+abbrev pub text_of : Answer → List ℕ
+text_of (Sites sites) = listing site_line (Ok sites)
+text_of (Texts texts) = listing quoted (Ok texts)
+text_of (Entries entries) = listing symbol_line (Ok entries)
+text_of (Outlines outline) = listing outline_line (Ok outline)
+text_of (Finds found) = listing found_lines (Ok found)
+text_of (Misses miss) = miss_text miss
 
 abbrev pub more_or_refusal : Index → Option MoreCommand → List ℕ
 more_or_refusal index None = codes "? bad command\n"
@@ -70,6 +76,15 @@ spoken answer =
     (cond (bytes_eq answer (codes "? nothing there\n")) (codes "There is no symbol at this place.\n")
     (cond (bytes_eq answer (codes "? bad command\n")) (codes "This is no command. Type help for a list.\n") answer))
 
+-- the answer to a line as one of JSON
+abbrev pub json_or_refusal : Index → Option MoreCommand → List ℕ
+json_or_refusal index None = json_line (error_value (codes "bad command"))
+json_or_refusal index (Some command) = json_line (answer_value (more_given_to index command))
+
+abbrev pub json_answer_to : Index → List ℕ → List ℕ
+json_answer_to index line =
+    json_or_refusal index (cond (nat_le (length line) max_command_length) (more_command_of line) None)
+
 -- an index, and how commands about it are taken
 pub record Asked : Type 0 where
   pub index : Index
@@ -79,6 +94,7 @@ abbrev pub reply_in : Manner → Index → List ℕ → List ℕ
 reply_in Plain index line = answer_to index line
 reply_in More index line = more_answer_to index line
 reply_in Spoken index line = spoken (more_answer_to index line)
+reply_in Json index line = json_answer_to index line
 
 -- the answer to a line
 abbrev pub reply_to : Asked → List ℕ → List ℕ

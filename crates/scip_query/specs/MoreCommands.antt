@@ -1,17 +1,21 @@
 -- More commands. (The grammar is this project's own.)
 use Rattle.std.specs.Prelude.{ℕ, ◌+◌, List, ◌++◌, codes}
 use Rattle.scip_query.specs.declared.position.Position.{Position}
+use Rattle.scip_query.specs.declared.command.Question.{Question}
 use Rattle.scip_query.specs.declared.command.Question.TheVariants.{Definitions}
 use Rattle.scip_query.specs.Commands.{Command, Ask, IsCommand, IsNumber, IsPath, space}
 
 -- one of the commands; or the signature of the symbol at a position, the outline of a document, the definitions that a
--- text finds, or what commands there are
+-- text finds, or what commands there are. And what no line spells: the entry of the symbol at a position, and a question
+-- about all symbols with a name
 pub data MoreCommand : Type 0 where
   Known : (command : Command) → MoreCommand
   Signature : (position : Position) (path : List ℕ) → MoreCommand
   Outline : (path : List ℕ) → MoreCommand
   Find : (text : List ℕ) → MoreCommand
   Help : MoreCommand
+  Entry : (position : Position) (path : List ℕ) → MoreCommand
+  Named : (question : Question) (name : List ℕ) → MoreCommand
 
 -- the commands, `sig L C PATH`, `out PATH`, `find TEXT`, `pos PATH:LINE:COL`, which asks what `def` does, counting from
 -- 1, and `help`. A text is any but the empty one, as a path is

@@ -6,6 +6,7 @@ pub mod Runs
 pub mod ConversingSteps
 pub mod Outlines
 pub mod LastParts
+pub mod Named
 use Rattle.std.specs.Prelude.{ℕ, ◌+◌, Bool, false, List, [], ◌∷◌, ◌++◌, length, map, Option, None, Some}
 use Rattle.std.specs.List.{slice_get, range_with_len}
 use Rattle.std.specs.List.Sorted.{IsSorted, IsStable, IsPermutation}

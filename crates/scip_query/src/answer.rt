@@ -1,12 +1,12 @@
-//! Answers to commands.
+//! Answers as texts.
 
 ghost use Rattle.std.specs.Prelude.{◌≡◌, ◌++◌, ◌==◌, ℕ, nat_le, List, length, map, None, if◌then◌else◌, IfOk, OnOk};
+ghost use Rattle.std.specs.Fmt.{signed_decimal};
 ghost use Rattle.std.specs.Option.{option_map};
 ghost use Rattle.std.specs.Borrow.{Bor};
 ghost use Rattle.std.specs.List.{flat_map, slice_split};
 ghost use Rattle.std.specs.String.{string_bytes};
 ghost use Rattle.scip_records.specs.declared.records.SymbolInformation.{SymbolInformation};
-ghost use Rattle.scip_query.specs.Tables.Searches.{site_listed};
 ghost use Rattle.scip_query.specs.AnswerText.{
   count_line,
   line_of,
@@ -15,30 +15,25 @@ ghost use Rattle.scip_query.specs.AnswerText.{
   quoted_line,
   symbol_line,
   miss_text,
-  listing,
   answer_of,
   answer_to,
 };
-ghost use Rattle.scip_query.specs.Answering.{Answers, line_or_none};
+ghost use Rattle.scip_query.specs.Answering.{Answers};
 ghost use Rattle.scip_query.specs.Commands.{max_command_length};
 ghost use Rattle.scip_query.specs.CommandReading.{command_of};
 ghost use Rattle.scip_query.specs.CommandViews.{command_view};
-ghost use Rattle.scip_query.specs.Nearest.{nearest_at};
-ghost use Rattle.scip_query.specs.References.{references_at};
-ghost use Rattle.scip_query.specs.Documentation.{documentation_at, symbols_of};
-ghost use Rattle.scip_query.specs.Outcomes.{fault_of};
-ghost use Rattle.scip_query.specs.declared.miss.Miss.{Miss};
+ghost use Rattle.scip_query.specs.MoreAnswers.{text_of};
+ghost use Rattle.scip_query.specs.MoreViews.{answer_view, site_view};
 ghost use Rattle.streams.specs.Writers.{writer};
 
 use crate::answer_fault::AnswerFault;
-use crate::command::{Command, MAX_COMMAND_LENGTH, Question, command_of};
+use crate::answers::Answer;
+use crate::command::{Command, MAX_COMMAND_LENGTH, command_of};
 use crate::miss::Miss;
-use crate::nearness::nearest;
-use crate::place::Place;
-use crate::position::Position;
+use crate::more_answer::{push_all_found, push_outline};
 use crate::queries::Queries;
-use crate::query_fault::QueryFault;
-use scip_records::{Document, Range, SymbolInformation};
+use crate::site::Site;
+use scip_records::{Range, SymbolInformation};
 use std::alloc::{AllocError, Global};
 use streams::{Sink, write_all};
 
@@ -73,35 +68,27 @@ pub fn push_line(text: &mut String, range: Range, roles: i32, name: &str) -> Res
     )
 }
 
-/// Appends the line of the occurrence at a place.
-fn push_site(text: &mut String, documents: &[Document], place: Place) -> Result<(), AllocError>
-    ensures { OnOk result (string_bytes text.new ≡ string_bytes text.old ++ line_or_none
-        (site_listed documents.now place)) }
+/// Appends the line of an occurrence.
+fn push_site(text: &mut String, site: &Site<'_>) -> Result<(), AllocError>
+    ensures { OnOk result (string_bytes text.new ≡ string_bytes text.old ++ site_line (site_view site.now)) }
 {
-    let Some(document) = documents.get(place.document) else {
-        return Ok(());
-    };
-    match document.occurrences.as_slice().get(place.occurrence) {
-        Some(occurrence) => push_line(
-            text,
-            occurrence.range,
-            occurrence.symbol_roles,
-            document.relative_path.as_str(),
-        ),
-        None => Ok(()),
-    }
+    push_line(
+        text,
+        site.occurrence.range,
+        site.occurrence.symbol_roles,
+        site.document.relative_path.as_str(),
+    )
 }
 
-/// Appends a line for each place, and how many there are.
-fn push_sites(text: &mut String, documents: &[Document], places: &[Place]) -> Result<(), AllocError>
+/// Appends a line for each occurrence, and how many there are.
+fn push_sites(text: &mut String, sites: &[Site<'_>]) -> Result<(), AllocError>
     ensures { OnOk result (string_bytes text.new ≡ string_bytes text.old
-        ++ flat_map (λ place. line_or_none (site_listed documents.now place)) places.now ++ count_line
-        (length places.now)) }
+        ++ flat_map (λ site. site_line (site_view site)) sites.now ++ count_line (length sites.now)) }
 {
-    for place in places {
-        push_site(text, documents, *place)?;
+    for site in sites {
+        push_site(text, site)?;
     }
-    push_count(text, places.len())
+    push_count(text, sites.len())
 }
 
 /// The lines of a text: what is between its `\n`, and before and after them.
@@ -125,11 +112,7 @@ fn push_lines(text: &mut String, lines: &[&str]) -> Result<(), AllocError>
 }
 
 /// Appends a text, each of its lines after `| `.
-pub(crate) fn push_quoted(
-    alloc: Global,
-    text: &mut String,
-    quoted_text: &str,
-) -> Result<(), AllocError>
+fn push_quoted(alloc: Global, text: &mut String, quoted_text: &str) -> Result<(), AllocError>
     ensures { OnOk result (string_bytes text.new ≡ string_bytes text.old ++ quoted quoted_text.now) }
 {
     let lines = lines_in(alloc, quoted_text)?;
@@ -160,20 +143,8 @@ fn push_symbols(text: &mut String, entries: &[&SymbolInformation]) -> Result<(),
     push_count(text, entries.len())
 }
 
-/// Appends why nothing is found. At `Memory` nothing is appended.
-pub(crate) fn push_fault(text: &mut String, fault: QueryFault) -> Result<(), AllocError>
-    ensures { OnOk result ((miss : Miss) × (fault ≡ fault_of miss) × (string_bytes text.new ≡ string_bytes text.old
-        ++ miss_text miss)) }
-{
-    match fault {
-        QueryFault::NoDocument => push_miss(text, Miss::NoDocument),
-        QueryFault::NothingThere => push_miss(text, Miss::NothingThere),
-        QueryFault::Memory => Err(AllocError),
-    }
-}
-
 /// Appends the line of a refused question.
-pub(crate) fn push_miss(text: &mut String, miss: Miss) -> Result<(), AllocError>
+fn push_miss(text: &mut String, miss: Miss) -> Result<(), AllocError>
     ensures { OnOk result (string_bytes text.new ≡ string_bytes text.old ++ miss_text miss) }
 {
     match miss {
@@ -182,75 +153,27 @@ pub(crate) fn push_miss(text: &mut String, miss: Miss) -> Result<(), AllocError>
     }
 }
 
+/// Appends the text of an answer.
+pub(crate) fn push_answer(
+    alloc: Global,
+    text: &mut String,
+    answer: &Answer<'_>,
+) -> Result<(), AllocError>
+    ensures { OnOk result (string_bytes text.new ≡ string_bytes text.old ++ text_of (answer_view answer.now)) }
+{
+    match answer {
+        Answer::Sites(sites) => push_sites(text, sites.as_slice()),
+        Answer::Texts(texts) => push_texts(alloc, text, texts.as_slice()),
+        Answer::Entries(entries) => push_symbols(text, entries.as_slice()),
+        Answer::Outline(outline) => push_outline(text, outline.as_slice()),
+        Answer::Found(found) => push_all_found(text, found.as_slice()),
+        Answer::Missed(miss) => push_miss(text, *miss),
+    }
+}
+
 impl Queries {
-    /// Appends the definitions of the symbol at a position: of several of a file those that are nearest to the
-    /// document in which it is asked for.
-    fn push_definitions(
-        &self,
-        alloc: Global,
-        text: &mut String,
-        position: Position,
-        path: &str,
-    ) -> Result<(), AllocError>
-        ensures { OnOk result (string_bytes text.new ≡ string_bytes text.old ++ listing site_line
-            (nearest_at self.now path.now position)) }
-    {
-        match self.definitions(alloc, path, position.line, position.column) {
-            Ok(places) => {
-                let near = nearest(alloc, self.documents(), path, places.as_slice())?;
-                push_sites(text, self.documents(), near.as_slice())
-            }
-            Err(fault) => push_fault(text, fault),
-        }
-    }
-
-    /// Appends the references of the symbol at a position.
-    fn push_references(
-        &self,
-        alloc: Global,
-        text: &mut String,
-        position: Position,
-        path: &str,
-    ) -> Result<(), AllocError>
-        ensures { OnOk result (string_bytes text.new ≡ string_bytes text.old ++ listing site_line
-            (references_at self.now path.now position)) }
-    {
-        match self.references(alloc, path, position.line, position.column) {
-            Ok(places) => push_sites(text, self.documents(), places.as_slice()),
-            Err(fault) => push_fault(text, fault),
-        }
-    }
-
-    /// Appends the documentation of the symbol at a position.
-    fn push_documentation(
-        &self,
-        alloc: Global,
-        text: &mut String,
-        position: Position,
-        path: &str,
-    ) -> Result<(), AllocError>
-        ensures { OnOk result (string_bytes text.new ≡ string_bytes text.old ++ listing quoted
-            (documentation_at self.now path.now position)) }
-    {
-        match self.documentation(alloc, path, position.line, position.column) {
-            Ok(texts) => push_texts(alloc, text, texts.as_slice()),
-            Err(fault) => push_fault(text, fault),
-        }
-    }
-
-    /// Appends the symbols of a document.
-    fn push_entries(&self, alloc: Global, text: &mut String, path: &str) -> Result<(), AllocError>
-        ensures { OnOk result (string_bytes text.new ≡ string_bytes text.old ++ listing symbol_line
-            (symbols_of self.now path.now)) }
-    {
-        match self.symbols(alloc, path) {
-            Ok(entries) => push_symbols(text, entries.as_slice()),
-            Err(fault) => push_fault(text, fault),
-        }
-    }
-
-    /// Appends the answer to a command.
-    pub(crate) fn push_answer(
+    /// Appends the answer to a command that is always known.
+    fn push_known(
         &self,
         alloc: Global,
         text: &mut String,
@@ -259,18 +182,8 @@ impl Queries {
         ensures { OnOk result (string_bytes text.new ≡ string_bytes text.old ++ answer_of self.now
             (command_view command.now)) }
     {
-        match command {
-            Command::Ask(Question::Definitions, position, path) => {
-                self.push_definitions(alloc, text, *position, *path)
-            }
-            Command::Ask(Question::References, position, path) => {
-                self.push_references(alloc, text, *position, *path)
-            }
-            Command::Ask(Question::Documentation, position, path) => {
-                self.push_documentation(alloc, text, *position, *path)
-            }
-            Command::Symbols(path) => self.push_entries(alloc, text, *path),
-        }
+        let answer = self.given_to(alloc, command)?;
+        push_answer(alloc, text, &answer)
     }
 
     /// The answer to a line.
@@ -279,7 +192,7 @@ impl Queries {
     {
         let mut text = String::new(alloc);
         match short_command_of(line) {
-            Some(command) => self.push_answer(alloc, &mut text, &command)?,
+            Some(command) => self.push_known(alloc, &mut text, &command)?,
             None => text.push_str("? bad command\n")?,
         }
         Ok(text)

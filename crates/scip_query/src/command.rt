@@ -25,18 +25,23 @@ pub const MAX_COMMAND_LENGTH: usize = 65_536;
 /// The most digits of a line or column.
 const MAX_DIGITS: usize = 10;
 
-/// What is asked of the symbol at a position.
-#[derive(Clone, Copy, Debug)]
-pub(crate) enum Question {
+/// What is asked of a symbol.
+#[derive(Clone, Copy, Debug, PartialEq, Eq)]
+pub enum Question {
+    /// Where it is defined.
     Definitions,
+    /// Where it occurs.
     References,
+    /// What documents it.
     Documentation,
 }
 
 /// A question about a position of the document that a path names, or about that document's symbols.
 #[derive(Clone, Copy, Debug)]
-pub(crate) enum Command<'a> {
+pub enum Command<'a> {
+    /// A question about the symbol at a position of the document that a path names.
     Ask(Question, Position, &'a str),
+    /// The symbols of that document's entries.
     Symbols(&'a str),
 }
 

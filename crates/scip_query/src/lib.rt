@@ -13,6 +13,7 @@ mod listed;
 mod place;
 mod run;
 mod search;
+mod site;
 mod tables;
 
 // What is asked: at a position, or about a symbol.
@@ -23,14 +24,18 @@ mod position;
 // What else is asked: outlines, and definitions by their names.
 mod entries;
 mod finding;
+mod named;
 mod names;
 mod outline;
 
 // Commands and their answers.
 mod answer;
 mod answer_fault;
+mod answers;
+mod asked;
 mod command;
 mod conversation;
+mod json_answer;
 mod kinds;
 mod manner;
 mod more_answer;
@@ -41,14 +46,25 @@ mod laws;
 
 pub use answer::push_line;
 pub use answer_fault::AnswerFault;
-pub use command::MAX_COMMAND_LENGTH;
+pub use answers::Answer;
+pub use asked::asked_about;
+pub use command::{Command, MAX_COMMAND_LENGTH, Question};
 pub use entries::{kind_in, signature_in};
 pub use finding::{Found, MAX_FOUND};
+pub use json_answer::{
+    entry_value, json_line_of, json_of, owned_values, push_json_line, range_value,
+};
 pub use kinds::kind_text;
-pub use laws::{commands_follow_the_grammar, more_commands_follow_the_grammar};
-pub use lookups::texts_of;
+pub use laws::{
+    answers_have_their_text, commands_follow_the_grammar, more_commands_follow_the_grammar,
+};
+pub use lookups::{defines_listed, texts_of};
 pub use manner::Manner;
+pub use miss::Miss;
+pub use more_command::MoreCommand;
 pub use outline::Outlined;
 pub use place::Place;
+pub use position::Position;
 pub use queries::Queries;
 pub use query_fault::QueryFault;
+pub use site::Site;

@@ -32,7 +32,7 @@ use std::alloc::{AllocError, Global};
 pub(crate) const DEFINITION: i32 = 1;
 
 /// Whether the occurrence at a place is a definition.
-fn defines_listed(documents: &[Document], place: Place) -> bool
+pub fn defines_listed(documents: &[Document], place: Place) -> bool
     ensures { result ≡ defines_listed documents.now place }
 {
     match occurrence_listed(documents, place) {

@@ -9,4 +9,6 @@ pub enum Manner {
     More,
     /// There are all of them, and why nothing is answered is said in a sentence.
     Spoken,
+    /// There are all of them, and each answer is an object of JSON on a line.
+    Json,
 }

@@ -2,7 +2,7 @@
 
 /// Why a query finds nothing.
 #[derive(Clone, Copy, Debug, PartialEq, Eq)]
-pub(crate) enum Miss {
+pub enum Miss {
     /// No document has the path.
     NoDocument,
     /// No occurrence is at the position.

@@ -1,24 +1,20 @@
 //! Answers to more commands, in each manner.
 
-ghost use Rattle.std.specs.Prelude.{◌≡◌, ◌++◌, nat_le, length, None, Ok, if◌then◌else◌, IfOk, OnOk};
+ghost use Rattle.std.specs.Prelude.{◌≡◌, ◌++◌, nat_le, length, None, if◌then◌else◌, IfOk, OnOk};
 ghost use Rattle.std.specs.Fmt.{signed_decimal};
 ghost use Rattle.std.specs.Option.{option_map};
 ghost use Rattle.std.specs.List.{flat_map};
-ghost use Rattle.std.specs.Result.{result_map_both};
 ghost use Rattle.std.specs.String.{string_bytes};
-ghost use Rattle.scip_records.specs.Texts.{unless_empty};
-ghost use Rattle.scip_query.specs.AnswerText.{quoted, listing, count_line};
+ghost use Rattle.scip_query.specs.AnswerText.{count_line};
 ghost use Rattle.scip_query.specs.Answering.{Answers};
 ghost use Rattle.scip_query.specs.Commands.{max_command_length};
-ghost use Rattle.scip_query.specs.Entries.{signature_at};
-ghost use Rattle.scip_query.specs.Finding.{found_by};
 ghost use Rattle.scip_query.specs.Kinds.{kind_text};
-ghost use Rattle.scip_query.specs.Outline.{outline_of};
 ghost use Rattle.scip_query.specs.MoreAnswers.{
   definition_line,
   indent,
   outline_line,
   found_lines,
+  json_answer_to,
   more_answer_of,
   more_answer_to,
   spoken,
@@ -28,31 +24,19 @@ ghost use Rattle.scip_query.specs.MoreCommandReading.{more_command_of};
 ghost use Rattle.scip_query.specs.MoreViews.{more_view, outlined_view, found_view};
 ghost use Rattle.streams.specs.Writers.{writer};
 
-use crate::answer::{push_count, push_fault, push_line, push_miss, push_quoted};
+use crate::answer::{push_answer, push_count, push_line};
 use crate::answer_fault::AnswerFault;
 use crate::command::MAX_COMMAND_LENGTH;
 use crate::finding::Found;
+use crate::json_answer::{error_line, json_of};
 use crate::kinds::kind_name;
 use crate::manner::Manner;
 use crate::more_command::{MoreCommand, more_command_of};
 use crate::outline::Outlined;
-use crate::position::Position;
 use crate::queries::Queries;
 use scip_records::Range;
 use std::alloc::{AllocError, Global};
 use streams::{Sink, write_all};
-
-/// What commands there are.
-const HELP: &str =
-    "def L C PATH: where the symbol at a position is defined; lines and columns count from 0\n\
-ref L C PATH: where it occurs\n\
-doc L C PATH: its documentation\n\
-sig L C PATH: how it is declared\n\
-sym PATH: the symbols of a file\n\
-out PATH: its definitions, in order of place\n\
-find TEXT: definitions by name, or the end of a full name, or how one begins\n\
-pos PATH:LINE:COL: as def; lines and columns count from 1\n\
-help: these lines";
 
 /// The command of a line that isn't too long, where more are known.
 fn short_command_of(line: &[u8]) -> Option<MoreCommand<'_>>
@@ -119,7 +103,7 @@ fn push_outlined(text: &mut String, outlined: &Outlined<'_>) -> Result<(), Alloc
 }
 
 /// Appends an outline, and how many definitions it has.
-fn push_outline(text: &mut String, outline: &[Outlined<'_>]) -> Result<(), AllocError>
+pub(crate) fn push_outline(text: &mut String, outline: &[Outlined<'_>]) -> Result<(), AllocError>
     ensures { OnOk result (string_bytes text.new ≡ string_bytes text.old
         ++ flat_map (λ o. outline_line (outlined_view o)) outline.now ++ count_line (length outline.now)) }
 {
@@ -140,7 +124,7 @@ fn push_found_lines(text: &mut String, found: &Found<'_>) -> Result<(), AllocErr
 }
 
 /// Appends definitions that are found, and how many there are.
-fn push_all_found(text: &mut String, all: &[Found<'_>]) -> Result<(), AllocError>
+pub(crate) fn push_all_found(text: &mut String, all: &[Found<'_>]) -> Result<(), AllocError>
     ensures { OnOk result (string_bytes text.new ≡ string_bytes text.old
         ++ flat_map (λ f. found_lines (found_view f)) all.now ++ count_line (length all.now)) }
 {
@@ -148,25 +132,6 @@ fn push_all_found(text: &mut String, all: &[Found<'_>]) -> Result<(), AllocError
         push_found_lines(text, found)?;
     }
     push_count(text, all.len())
-}
-
-/// Appends that nothing was found.
-fn push_none(text: &mut String) -> Result<(), AllocError>
-    ensures { OnOk result (string_bytes text.new ≡ string_bytes text.old ++ count_line 0) }
-{
-    push_count(text, 0)
-}
-
-/// Appends a text that isn't empty, each of its lines after `| `, and how many texts that is.
-fn push_one(alloc: Global, text: &mut String, shown: &str) -> Result<(), AllocError>
-    ensures { OnOk result (string_bytes text.new ≡ string_bytes text.old ++ listing quoted
-        (Ok (unless_empty shown.now))) }
-{
-    if shown.is_empty() {
-        return push_none(text);
-    }
-    push_quoted(alloc, text, shown)?;
-    push_count(text, 1)
 }
 
 /// A sentence in place of an answer that says why there is nothing.
@@ -182,48 +147,6 @@ fn spoken(answer: &str) -> &str
 }
 
 impl Queries {
-    /// Appends the signature of the symbol at a position.
-    fn push_signature(
-        &self,
-        alloc: Global,
-        text: &mut String,
-        position: Position,
-        path: &str,
-    ) -> Result<(), AllocError>
-        ensures { OnOk result (string_bytes text.new ≡ string_bytes text.old ++ listing quoted (result_map_both
-            unless_empty (λ miss. miss) (signature_at self.now path.now position))) }
-    {
-        match self.subject_at(path, position) {
-            Ok(subject) => push_one(alloc, text, self.signature_of(&subject)),
-            Err(miss) => push_miss(text, miss),
-        }
-    }
-
-    /// Appends the outline of a document.
-    fn push_outline_of(
-        &self,
-        alloc: Global,
-        text: &mut String,
-        path: &str,
-    ) -> Result<(), AllocError>
-        ensures { OnOk result (string_bytes text.new ≡ string_bytes text.old ++ listing outline_line
-            (outline_of self.now path.now)) }
-    {
-        match self.outline(alloc, path) {
-            Ok(outline) => push_outline(text, outline.as_slice()),
-            Err(fault) => push_fault(text, fault),
-        }
-    }
-
-    /// Appends the definitions that a text finds.
-    fn push_found_by(&self, alloc: Global, text: &mut String, asked: &str) -> Result<(), AllocError>
-        ensures { OnOk result (string_bytes text.new ≡ string_bytes text.old ++ listing found_lines
-            (Ok (found_by self.now asked.now))) }
-    {
-        let found = self.find(alloc, asked)?;
-        push_all_found(text, found.as_slice())
-    }
-
     /// Appends the answer to a command.
     fn push_more(
         &self,
@@ -234,15 +157,8 @@ impl Queries {
         ensures { OnOk result (string_bytes text.new ≡ string_bytes text.old ++ more_answer_of self.now
             (more_view command.now)) }
     {
-        match command {
-            MoreCommand::Known(command) => self.push_answer(alloc, text, command),
-            MoreCommand::Signature(position, path) => {
-                self.push_signature(alloc, text, *position, *path)
-            }
-            MoreCommand::Outline(path) => self.push_outline_of(alloc, text, *path),
-            MoreCommand::Find(asked) => self.push_found_by(alloc, text, *asked),
-            MoreCommand::Help => push_one(alloc, text, HELP),
-        }
+        let answer = self.given(alloc, command)?;
+        push_answer(alloc, text, &answer)
     }
 
     /// The answer to a line, where more commands are known.
@@ -265,6 +181,19 @@ impl Queries {
         String::from_str(alloc, spoken(answer.as_str()))
     }
 
+    /// The same as a line of JSON.
+    fn json_answer_to(&self, alloc: Global, line: &[u8]) -> Result<String, AllocError>
+        ensures { IfOk result (λ text. string_bytes text ≡ json_answer_to self.now line.now) }
+    {
+        match short_command_of(line) {
+            Some(command) => {
+                let answer = self.given(alloc, &command)?;
+                json_of(alloc, &answer)
+            }
+            None => error_line(alloc, "bad command"),
+        }
+    }
+
     /// The answer to a line, in a manner.
     pub(crate) fn reply_in(
         &self,
@@ -278,6 +207,7 @@ impl Queries {
             Manner::Plain => self.answer_to(alloc, line),
             Manner::More => self.more_answer_to(alloc, line),
             Manner::Spoken => self.spoken_answer_to(alloc, line),
+            Manner::Json => self.json_answer_to(alloc, line),
         }
     }
 
@@ -289,7 +219,8 @@ impl Queries {
     /// a line `L C KIND SYMBOL` for each definition, after two spaces for each symbol around its own; KIND is a kind's
     /// name, its number if it has none, and `-` if it isn't known. For `find` it has two lines for each definition,
     /// that which `def` gives and the symbol. Then comes `= N`, as there. In `Spoken` a sentence stands in place of an
-    /// answer that begins with `?`.
+    /// answer that begins with `?`. In `Json` each answer is a line with an object of JSON, as `json_of` gives it; that
+    /// of a line that is no command is `{"error":"bad command"}`.
     ///
     /// - `Memory`: nothing was written.
     /// - `Write(count)`: a write failed after so many bytes of the answer.

@@ -19,12 +19,21 @@ use crate::position::Position;
 
 /// One of the commands that are always known, or one more.
 #[derive(Clone, Copy, Debug)]
-pub(crate) enum MoreCommand<'a> {
+pub enum MoreCommand<'a> {
+    /// One of those that are always known.
     Known(Command<'a>),
+    /// How the symbol at a position of the document that a path names is declared.
     Signature(Position, &'a str),
+    /// What the document that a path names defines.
     Outline(&'a str),
+    /// Which definitions a text finds.
     Find(&'a str),
+    /// What commands there are.
     Help,
+    /// The entry of the symbol at a position of the document that a path names. No line spells this.
+    Entry(Position, &'a str),
+    /// What is asked of all symbols with a name. No line spells this.
+    Named(Question, &'a str),
 }
 
 /// The place of a byte, if that is a colon; else the earlier one.
@@ -77,7 +86,7 @@ fn signature_of(line: &[u8]) -> Option<MoreCommand<'_>>
 
 /// `PATH:LINE:COL`.
 #[tactic(auto, unfolding(crate::specs::MoreCommandReading::place_of))]
-fn place_of(line: &[u8]) -> Option<MoreCommand<'_>>
+pub(crate) fn place_of(line: &[u8]) -> Option<MoreCommand<'_>>
     ensures { option_map more_view result ≡ place_of line.now }
 {
     let (before, digits) = last_parts_of(line)?;

@@ -10,9 +10,11 @@ use scip_records::{Occurrence, Range};
 use std::cmp::Ordering;
 
 /// A zero-based line and column. Columns count the units of the document's position encoding.
-#[derive(Clone, Copy, Debug)]
-pub(crate) struct Position {
+#[derive(Clone, Copy, Debug, PartialEq, Eq)]
+pub struct Position {
+    /// The line, from 0.
     pub line: u32,
+    /// The column, from 0.
     pub column: u32,
 }
 

@@ -9,7 +9,7 @@ ghost use Rattle.std.specs.Cmp.Lexicographic.{slice_cmp};
 ghost use Rattle.scip_query.specs.declared.place.Place.{Place};
 ghost use Rattle.scip_query.specs.declared.place.EntryPlace.{EntryPlace};
 ghost use Rattle.scip_query.specs.declared.miss.Miss.{Miss};
-ghost use Rattle.scip_query.specs.Sites.{Site, document_named};
+ghost use Rattle.scip_query.specs.Sites.{Numbered, Site, document_named};
 ghost use Rattle.scip_query.specs.OccurrenceAt.{occurrence_in, occurrence_at, subject_at};
 ghost use Rattle.scip_query.specs.References.{is_local, references_of};
 ghost use Rattle.scip_query.specs.Tables.{symbol_listed, places_from, IsBySymbol};
@@ -32,7 +32,7 @@ use crate::search::{
 };
 use crate::tables::{Tables, tables_of};
 use basics::Sequence;
-use scip_records::{Document, Index, Occurrence, SymbolInformation};
+use scip_records::{Document, Index, Metadata, Occurrence, SymbolInformation};
 use std::alloc::{AllocError, AllocFailed, Global};
 use std::marker::Model;
 
@@ -120,6 +120,20 @@ impl Queries {
         self.index.documents.as_slice()
     }
 
+    /// What the index says about itself.
+    pub fn metadata(&self) -> Option<&Metadata>
+        ensures { option_copied result ≡ self.now.metadata }
+    {
+        self.index.metadata.as_ref()
+    }
+
+    /// What is known of symbols that no document defines.
+    pub fn external_symbols(&self) -> &[SymbolInformation]
+        ensures { result.now ≡ self.now.external_symbols }
+    {
+        self.index.external_symbols.as_slice()
+    }
+
     /// The number of the first document with a path.
     fn number_named(&self, path: &str) -> Option<usize>
         ensures { option_and_then (numbered_listed self.now.documents) result ≡ document_named self.now path.now }
@@ -135,6 +149,26 @@ impl Queries {
         let number = self.number_named(path)?;
         match self.documents().get(number) {
             Some(document) => Some(Named { number, document }),
+            None => None,
+        }
+    }
+
+    /// The document that a path names: the first with that path.
+    pub fn document(&self, path: &str) -> Option<&Document>
+        ensures { option_copied result ≡ option_map (λ (d : Numbered). d.document) (document_named self.now path.now) }
+    {
+        match self.named(path) {
+            Some(named) => Some(named.document),
+            None => None,
+        }
+    }
+
+    /// The number, from 0, of the document that a path names.
+    pub fn document_number(&self, path: &str) -> Option<usize>
+        ensures { result ≡ option_map (λ (d : Numbered). d.number) (document_named self.now path.now) }
+    {
+        match self.named(path) {
+            Some(named) => Some(named.number),
             None => None,
         }
     }

@@ -35,6 +35,11 @@ site_or_none place (Some d) =
     option_map (λ (o : Occurrence). record { place = place; document = d; occurrence = o })
     (slice_get d.occurrences place.occurrence)
 
+-- what there is, as a list
+abbrev pub some_of : {X : Type 0} → Option X → List X
+some_of None = []
+some_of (Some x) = x ∷ []
+
 -- the site at a place
 abbrev pub site_listed : List Document → Place → Option Site
 site_listed documents place = site_or_none place (slice_get documents place.document)

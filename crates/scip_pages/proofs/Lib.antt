@@ -35,6 +35,8 @@ pub mod PlainLemmas
 pub mod RunLemmas
 -- The narrowest of the spans of a byte
 pub mod RunSpanLemmas
+-- Lines of answers
+pub mod ToldLemmas
 -- The marks of the folders on a path, as they are found byte by byte
 pub mod SiteFolderLemmas
 -- URLs of pages, by the paths of their documents

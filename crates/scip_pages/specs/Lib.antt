@@ -16,6 +16,9 @@ pub mod Ids
 -- snapshots
 pub mod Snapshot
 pub mod SnapshotOutcomes
+-- answers, for people
+pub mod Told
+pub mod ToldPlaces
 -- what both stand on: texts, columns, what is marked on a line, code, paths and URLs
 pub mod Escapes
 pub mod Plainly

@@ -38,7 +38,7 @@ pub(crate) fn is_first_byte(byte: u8) -> bool
 }
 
 /// The units that a byte of a text in UTF-8 counts for.
-fn units_of(unit: ColumnUnit, byte: u8) -> u64
+pub(crate) fn units_of(unit: ColumnUnit, byte: u8) -> u64
     ensures units { result ≡ spec.units_of unit byte }
     ensures few { result ≤ 2 }
 {

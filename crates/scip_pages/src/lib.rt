@@ -26,6 +26,10 @@ mod about;
 mod snapshot_fault;
 mod snapshots;
 
+// Answers, for people.
+mod told;
+mod told_places;
+
 // What both stand on: lines and columns, what is marked on a line, texts, numbers, paths and URLs.
 mod code;
 mod columns;
@@ -67,5 +71,7 @@ pub use shown::shown_symbol;
 pub use site::{Site, has_page, page_path};
 pub use snapshot_fault::SnapshotFault;
 pub use snapshots::{is_definition, parts_of, push_flat, snapshot};
+pub use told::{Source, has_path, paths_of, push_told};
+pub use told_places::{place_path, placed};
 pub use urls::{push_encoded, push_ups, push_url};
 pub use uses::marked_text;

@@ -101,7 +101,7 @@ fn push_carets(
 }
 
 /// A line without the `\r` of a line end `\r\n`.
-fn without_return(line: &[u8]) -> &[u8]
+pub(crate) fn without_return(line: &[u8]) -> &[u8]
     ensures { result.now ≡ strip_last 13 line.now }
 {
     if 0 < line.len() && line[line.len() - 1] == b'\r' {

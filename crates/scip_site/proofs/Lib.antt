@@ -21,6 +21,8 @@ mod RepeatLemmas
 mod ScriptLemmas
 -- What becomes of a document by the bytes of its source
 mod SnapshotOutcomeLemmas
+-- Sources of some documents
+mod SourceLemmas
 -- Documents that are shown one after another
 pub mod SnapshotShowLemmas
 -- The tree of folders

@@ -7,7 +7,7 @@ use Rattle.std.proofs.lemmas.Grind.{flat_map-append}
 use Rattle.std.proofs.lemmas.List.{map-append}
 use Rattle.streams.specs.Writers.{SinkOf, silent, writing}
 use Rattle.source_files.specs.Makers.{MakeFilesOf, making}
-use Rattle.source_files.specs.Made.{Made, MadeFile}
+use Rattle.source_files.specs.Made.{MadeFile}
 use Rattle.scip_records.specs.declared.records.Index.{Index}
 use Rattle.scip_query.specs.Tables.{numbers, IsByPath}
 use Rattle.scip_site.specs.declared.show_fault.ShowFault.{ShowFault}

@@ -5,7 +5,6 @@ use Rattle.std.proofs.Common.{inr}
 use Rattle.std.specs.Prelude.{codes}
 use Rattle.std.specs.List.{flat_map, range_with_len}
 use Rattle.std.specs.Str.{bytes_eq}
-use Rattle.std.proofs.lemmas.Bool.Decides.{nat_tests}
 use Rattle.std.proofs.lemmas.List.{length-map, length-take-le, map-append, take-append-drop, take-map, take-take}
 use Rattle.std.proofs.lemmas.List.{take_all}
 use Rattle.basics.proofs.TestLemmas.{not_zero as not_none}

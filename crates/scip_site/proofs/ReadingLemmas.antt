@@ -10,7 +10,7 @@ use Rattle.std.proofs.lemmas.List.{length_push, map-append}
 use Rattle.std.proofs.lemmas.List.FromFn.{get_or-map-range_with_len}
 use Rattle.std.proofs.lemmas.Option.{unwrap_or-slice_get}
 use Rattle.std.proofs.lemmas.Str.{IsUtf8-from_is_utf8, is_utf8-from_IsUtf8}
-use Rattle.streams.specs.Writers.{AreSaid, AreTold, SinkOf, Writer, said, silent, writing}
+use Rattle.streams.specs.Writers.{AreSaid, AreTold, SinkOf, Writer, silent, writing}
 use Rattle.scip_records.specs.declared.records.Document.{Document}
 use Rattle.scip_query.specs.Tables.{numbers}
 use Rattle.scip_pages.specs.Columns.{unit_of}

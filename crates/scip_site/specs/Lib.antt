@@ -12,6 +12,8 @@ pub mod LeftOuts
 pub mod Snapshots
 pub mod Showing
 pub mod ShowFaults
+-- the sources of some documents
+pub mod Sources
 -- the laws
 pub mod FolderLaws
 pub mod Laws

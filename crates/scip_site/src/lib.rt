@@ -25,6 +25,9 @@ mod filing;
 mod printing;
 mod show_fault;
 
+// The sources of some documents.
+mod sources;
+
 // What becomes of each document.
 mod left_out;
 mod snapshot_outcome;
@@ -47,3 +50,4 @@ pub use printing::print_all;
 pub use show_fault::ShowFault;
 pub use site_fault::SiteFault;
 pub use snapshot_outcome::path_in;
+pub use sources::{sources_for, sources_of};

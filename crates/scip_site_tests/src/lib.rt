@@ -1,5 +1,5 @@
-//! Tests of `scip_wire`, `scip_query`, `scip_join` and `scip_pages`, and of `scip_site` on files in memory, by their
-//! public calls.
+//! Tests of `scip_wire`, `scip_query`, `scip_join`, `scip_pages` and `scip_survey`, and of `scip_site` on files in memory,
+//! by their public calls.
 #![tactic(auto)]
 
 #[cfg(test)]
@@ -54,6 +54,8 @@ mod snapshot_names;
 mod snapshots;
 #[cfg(test)]
 mod spellings;
+#[cfg(test)]
+mod surveys;
 #[cfg(test)]
 mod urls;
 #[cfg(test)]

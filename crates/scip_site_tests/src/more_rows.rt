@@ -3,7 +3,7 @@
 use crate::asked::{queries, see_replied};
 use crate::calls::see;
 use crate::indexes::{DETAILED, FIELD_NAMED_LIKE_A_TYPE};
-use scip_query::{Manner, Queries};
+use scip_query::{Manner, Queries, Question, asked_about, json_of};
 use std::alloc::{AllocError, Global};
 use std::test::Fail;
 
@@ -17,7 +17,7 @@ struct Row {
 
 // The first row: what `a.proto` defines, in order of place. The package is around the message and the enum, and the
 // message around its field. The enum's kind is in an external entry, and 300 is the number of no kind.
-static ROWS: [Row; 9] = [
+static ROWS: [Row; 11] = [
     Row {
         index: DETAILED,
         manner: Manner::More,
@@ -65,6 +65,18 @@ static ROWS: [Row; 9] = [
         manner: Manner::More,
         commands: "find foo\nfind proto",
         answers: "2 8 2 11 1 a.proto\nscip-protobuf . . . p/Foo#\n3 19 3 22 1 a.proto\nscip-protobuf . . . p/M#Foo.\n= 2\n= 0\n",
+    },
+    Row {
+        index: DETAILED,
+        manner: Manner::Json,
+        commands: "def 1 8 a.proto\nsig 1 8 a.proto\nfind M.x\nout z\ndef 9 9 a.proto\nx",
+        answers: "{\"occurrences\":[{\"path\":\"a.proto\",\"range\":[1,8,1,9],\"roles\":1,\"symbol\":\"p/M#\"}]}\n{\"texts\":[\"message M\"]}\n{\"definitions\":[{\"exact\":true,\"path\":\"a.proto\",\"range\":[2,8,2,9],\"roles\":1,\"symbol\":\"p/M#x.\"}]}\n{\"error\":\"no document\"}\n{\"error\":\"nothing there\"}\n{\"error\":\"bad command\"}\n",
+    },
+    Row {
+        index: DETAILED,
+        manner: Manner::Json,
+        commands: "out a.proto",
+        answers: "{\"outline\":[{\"depth\":0,\"kind\":\"-\",\"range\":[0,8,0,9],\"symbol\":\"p/\"},{\"depth\":1,\"kind\":\"Message\",\"range\":[1,8,1,9],\"symbol\":\"p/M#\"},{\"depth\":2,\"kind\":\"Field\",\"range\":[2,8,2,9],\"symbol\":\"p/M#x.\"},{\"depth\":1,\"kind\":\"Enum\",\"range\":[4,8,4,10],\"symbol\":\"p/Md#\"},{\"depth\":0,\"kind\":\"300\",\"range\":[5,0,5,1],\"symbol\":\"local 1\"}]}\n",
     },
     Row {
         index: DETAILED,
@@ -118,5 +130,67 @@ fn calls_behind_the_answers(rt: HostRuntime) -> Result<(), Fail> {
         Err(AllocError) => are_called(rt.alloc(), &asked)?,
     };
     see(&rt, are, "calls");
+    Ok(())
+}
+
+/// A question about a text in one line, and its answer as JSON.
+struct OneLine {
+    question: Question,
+    text: &'static str,
+    answer: &'static str,
+}
+
+// By a full name and its end, by a place, and a name that nothing has. The entry of the enum is an external one.
+static ONE_LINE: [OneLine; 5] = [
+    OneLine {
+        question: Question::Definitions,
+        text: "p.M",
+        answer: "{\"occurrences\":[{\"path\":\"a.proto\",\"range\":[1,8,1,9],\"roles\":1,\"symbol\":\"p/M#\"}]}\n",
+    },
+    OneLine {
+        question: Question::References,
+        text: "M.x",
+        answer: "{\"occurrences\":[{\"path\":\"a.proto\",\"range\":[2,8,2,9],\"roles\":1,\"symbol\":\"p/M#x.\"}]}\n",
+    },
+    OneLine {
+        question: Question::References,
+        text: "a.proto:2:9",
+        answer: "{\"occurrences\":[{\"path\":\"a.proto\",\"range\":[1,8,1,9],\"roles\":1,\"symbol\":\"p/M#\"}]}\n",
+    },
+    OneLine {
+        question: Question::Definitions,
+        text: "zzz",
+        answer: "{\"occurrences\":[]}\n",
+    },
+    OneLine {
+        question: Question::Documentation,
+        text: "z:1:1",
+        answer: "{\"error\":\"no document\"}\n",
+    },
+];
+
+/// The answer to a question in one line; empty if it is none.
+fn one_line(alloc: Global, asked: &Queries, row: &OneLine) -> Result<String, AllocError> {
+    match asked_about(row.question, row.text) {
+        Some(command) => json_of(alloc, &asked.given(alloc, &command)?),
+        None => Ok(String::new(alloc)),
+    }
+}
+
+#[test]
+fn asked_in_one_line(rt: HostRuntime) -> Result<(), Fail> {
+    let asked = queries(&rt, rt.alloc(), DETAILED)?;
+    for row in &ONE_LINE {
+        let line = match one_line(rt.alloc(), &asked, row) {
+            Ok(line) => line,
+            Err(AllocError) => one_line(rt.alloc(), &asked, row)?,
+        };
+        see(&rt, line.as_str() == row.answer, line.as_str());
+    }
+    see(
+        &rt,
+        asked_about(Question::References, "").is_none(),
+        "no name",
+    );
     Ok(())
 }

@@ -1,0 +1,7 @@
+use Rattle.std.proofs.Common.{◌∙◌, ap}
+use Rattle.serde_json.specs.Written.{has_float}
+use Rattle.scip_survey.proofs.RecordLemmas.{of_external}
+use Rattle.scip_survey.proofs.records.push_external.Goals as goal
+
+pub push_json_line-requires : goal.push_json_line-requires
+push_json_line-requires c = ap has_float c.in_ok-external_value.ensures ∙ of_external c.args.entry.now

@@ -33,12 +33,13 @@ OPTIONS = {
     "--workers": (("1",), ("3",), ("16",)),
     "--explain": ((),),
     "--quiet": ((),),
+    "--sync": ((),),
     "--max-skipped": (("0",), ("1",)),
     "--min-sources": (("1",), ("4",)),
 }
 LIMITS = ("--max-skipped", "--min-sources")
 # Nothing of these is in an index.
-SILENT = ("--report", "--workers", "--explain", "--quiet")
+SILENT = ("--report", "--workers", "--explain", "--quiet", "--sync")
 # What --real stands for.
 REAL = {"--accept": ("all",), "--options": ("link",), "--faulty": ("skip",), "--duplicates": ("keep",),
         "--well-known": (), "--doc": ("both",), "--comments": ("clean",), "--details": ()}

@@ -37,6 +37,7 @@ asks_answer (k ∷ ks) program e r (inr among) p = (kind_of e, among, p.1)
 pub refuses : (r : Request) → Prints kind.ValueValidation r → IsRefused r
 refuses (request.Dump options) p = absurd p
 refuses (request.Query options) p = absurd p
+refuses (request.Ask options) p = absurd p
 refuses (request.Snapshot options) p = absurd p
 refuses (request.Pages options) p = absurd p
 refuses (request.Join options) p = absurd p

@@ -9,6 +9,10 @@ use Rattle.clap.specs.declared.builder.value_parser.ValueParser.TheVariants as v
 abbrev pub required_rule : Text → Rule
 required_rule name = record (new_rule name) { required = true }
 
+-- an argument that may be given
+abbrev pub optional_rule : Text → Rule
+optional_rule name = new_rule name
+
 -- an option `--name VALUE` of any text, at most once
 abbrev pub option_rule : Text → Rule
 option_rule name = record (new_rule name) { long = Some name; value_names = 1 }

@@ -4,7 +4,7 @@ use Rattle.std.specs.Prelude.{◌≡◌, ◌≢◌, Bool, true, false, ◌||◌,
 use Rattle.std.specs.Option.{option_map}
 use Rattle.clap.specs.Words.{Kinds, IsAmong, Row, Text, fault_of, subcommand_of}
 use Rattle.clap.specs.declared.error.kind.ErrorKind.{ErrorKind}
-use Rattle.command_line.specs.Options.{AreListed, CarriesDump, CarriesIndex, CarriesJoin, CarriesPages}
+use Rattle.command_line.specs.Options.{AreListed, CarriesAsk, CarriesDump, CarriesIndex, CarriesJoin, CarriesPages}
 use Rattle.command_line.specs.Options.{CarriesQuery, CarriesShell, CarriesSnapshot}
 use Rattle.command_line.specs.Options.At.{is_nowhere}
 use Rattle.command_line.specs.Options.OptionsLinked.{links_in_proto3}
@@ -13,6 +13,8 @@ use Rattle.command_line.specs.Options.Sources.{lists_commands}
 use Rattle.command_line.specs.Program.{command_line}
 use Rattle.command_line.specs.Requests.{IsRefused, Prints}
 use Rattle.command_line.specs.Values.{rows_in}
+use Rattle.command_line.specs.Verbs.{name_of}
+use Rattle.command_line.specs.declared.verb.Verb.{Verb}
 use Rattle.command_line.specs.declared.options.WordLists.{WordLists}
 use Rattle.command_line.specs.declared.request.Request.{Request}
 use Rattle.command_line.specs.declared.request.Request.TheVariants as request
@@ -21,8 +23,8 @@ use Rattle.command_line.specs.declared.request.Request.TheVariants as request
 abbrev pub program_name : Option (Text × List Row) → Option Text
 program_name program = option_map (λ p. p.0) program
 
--- the program, with what it is given: `index`, `shell`, `query`, `snapshot`, `pages`, `join`, and else
--- `dump`, the only other one
+-- the program, with what it is given: `index`, `shell`, `query`, `snapshot`, `pages`, `join`, one that asks in one line,
+-- and else `dump`, the only other one
 abbrev pub Names : Option (Text × List Row) → Request → Type 0
 Names program (request.Index given) = (program_name program ≡ Some (codes "index"))
     × CarriesIndex (rows_in program) given
@@ -36,12 +38,15 @@ Names program (request.Pages options) = (program_name program ≡ Some (codes "p
     × CarriesPages (rows_in program) options
 Names program (request.Join options) = (program_name program ≡ Some (codes "join"))
     × CarriesJoin (rows_in program) options
+Names program (request.Ask options) = (program_name program ≡ Some (name_of options.verb))
+    × CarriesAsk (rows_in program) options
 Names program (request.Dump options) = (program_name program ≢ Some (codes "index"))
     × (program_name program ≢ Some (codes "shell"))
     × (program_name program ≢ Some (codes "query"))
     × (program_name program ≢ Some (codes "snapshot"))
     × (program_name program ≢ Some (codes "pages"))
     × (program_name program ≢ Some (codes "join"))
+    × ((verb : Verb) → program_name program ≢ Some (name_of verb))
     × CarriesDump (rows_in program) options
 Names program (request.Print text) = ⊥
 Names program (request.Refuse text) = ⊥

@@ -1,6 +1,8 @@
 -- what a command line asks for
 pub mod Asks
 pub mod Requests
+-- what is asked in one line
+pub mod Verbs
 -- the programs, their arguments and options, and what these are given
 pub mod Program
 pub mod Values

@@ -1,7 +1,7 @@
 -- What the programs are told by their options: a file for each, with its words, its rule and what it says.
 use Rattle.std.specs.Prelude.{◌≡◌, List, [], ◌∷◌, ◌++◌, codes, map, string_bytes}
 use Rattle.std.specs.Option.{option_map}
-use Rattle.clap.specs.Words.{Row, Rule, Text}
+use Rattle.clap.specs.Words.{Row, Rule}
 use Rattle.command_line.specs.Arguments.{texts_at}
 use Rattle.command_line.specs.Values.{text_of, texts_of}
 use Rattle.command_line.specs.Options.Accept.{accept_rule, accept_words, dialect_of}
@@ -18,6 +18,7 @@ use Rattle.command_line.specs.Options.Faulty.{faulty_of, faulty_rule, faulty_wor
 use Rattle.command_line.specs.Options.Include.{folder_of, include_of, include_package_rule, include_rule}
 use Rattle.command_line.specs.Options.Include.{package_folders_of}
 use Rattle.command_line.specs.Options.JoinedRoot.{joined_root_of}
+use Rattle.command_line.specs.Options.Json.{json_in}
 use Rattle.command_line.specs.Options.Limits.{limits_of, max_skipped_rule, min_sources_rule}
 use Rattle.command_line.specs.Options.Links.{links_of, links_rule, links_words}
 use Rattle.command_line.specs.Options.More.{more_in}
@@ -31,10 +32,14 @@ use Rattle.command_line.specs.Options.Quiet.{quiet_in, quiet_rule}
 use Rattle.command_line.specs.Options.Real.{is_real, real_rule}
 use Rattle.command_line.specs.Options.Replace.{replaces_in}
 use Rattle.command_line.specs.Options.Report.{CarriesReport, format_rule, format_words, report_rule}
+use Rattle.command_line.specs.Options.Root.{root_of}
 use Rattle.command_line.specs.Options.Sources.{file_of, nothing_listed, sources_of, sources_rule}
+use Rattle.command_line.specs.Options.Sync.{sync_in, sync_rule}
 use Rattle.command_line.specs.Options.To.{to_of}
 use Rattle.command_line.specs.Options.WellKnown.{well_known_in, well_known_rule}
 use Rattle.command_line.specs.Options.Workers.{workers_of, workers_rule}
+use Rattle.command_line.specs.Verbs.{asked_of}
+use Rattle.command_line.specs.declared.options.AskOptions.{AskOptions}
 use Rattle.command_line.specs.declared.options.DumpOptions.{DumpOptions}
 use Rattle.command_line.specs.declared.options.IndexOptions.{IndexOptions}
 use Rattle.command_line.specs.declared.options.IndexRequest.{IndexRequest}
@@ -57,6 +62,7 @@ pub mod Explain
 pub mod Faulty
 pub mod Include
 pub mod JoinedRoot
+pub mod Json
 pub mod Limits
 pub mod Links
 pub mod More
@@ -69,7 +75,9 @@ pub mod Quiet
 pub mod Real
 pub mod Replace
 pub mod Report
+pub mod Root
 pub mod Sources
+pub mod Sync
 pub mod To
 pub mod WellKnown
 pub mod Workers
@@ -91,7 +99,7 @@ pub record AreListed (lists : WordLists) : Type 0 where
 
 -- the options of `index` alone
 abbrev pub own_rules : List Rule
-own_rules = quiet_rule ∷ max_skipped_rule ∷ min_sources_rule ∷ []
+own_rules = quiet_rule ∷ sync_rule ∷ max_skipped_rule ∷ min_sources_rule ∷ []
 
 -- those of `index` and of `shell`: for trees as they lie, on the run, on where the sources are, and on the package
 abbrev pub setting_rules : List Rule
@@ -166,6 +174,7 @@ pub record CarriesIndex (rows : List Row) (given : IndexRequest) : Type 0 where
   pub options : Carries rows given.options
   pub out : string_bytes given.out ≡ text_of (codes "OUT") rows
   pub quiet : given.quiet ≡ quiet_in rows
+  pub sync : given.sync ≡ sync_in rows
   pub limits : given.limits ≡ limits_of rows
 
 -- and all that `shell` is given
@@ -178,6 +187,15 @@ pub record CarriesQuery (rows : List Row) (options : QueryOptions) : Type 0 wher
   pub indexes : map string_bytes options.indexes.items ≡ texts_of (codes "INDEX") rows
   pub explain : options.explain ≡ explains_in rows
   pub more : options.more ≡ more_in rows
+  pub json : options.json ≡ json_in rows
+
+-- and what is asked in one line
+pub record CarriesAsk (rows : List Row) (options : AskOptions) : Type 0 where
+  pub indexes : map string_bytes options.indexes.items ≡ indexes_of rows
+  pub asked : string_bytes options.asked ≡ asked_of options.verb rows
+  pub root : option_map string_bytes options.root ≡ root_of rows
+  pub json : options.json ≡ json_in rows
+  pub explain : options.explain ≡ explains_in rows
 
 -- and so the options of `dump`
 pub record CarriesDump (rows : List Row) (options : DumpOptions) : Type 0 where
@@ -204,4 +222,5 @@ pub record CarriesJoin (rows : List Row) (options : JoinOptions) : Type 0 where
   pub indexes : map string_bytes options.indexes.items ≡ texts_of (codes "INDEX") rows
   pub project_root : option_map string_bytes options.project_root ≡ joined_root_of rows
   pub replace : options.replace ≡ replaces_in rows
+  pub sync : options.sync ≡ sync_in rows
   pub explain : options.explain ≡ explains_in rows

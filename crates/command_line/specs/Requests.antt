@@ -5,6 +5,7 @@ use Rattle.clap.specs.declared.error.kind.ErrorKind.{ErrorKind}
 use Rattle.clap.specs.declared.error.kind.ErrorKind.TheVariants as kind
 use Rattle.command_line.specs.declared.options.IndexOptions.{IndexOptions}
 use Rattle.command_line.specs.declared.options.IndexRequest.{IndexRequest}
+use Rattle.command_line.specs.declared.options.AskOptions.{AskOptions}
 use Rattle.command_line.specs.declared.options.SnapshotOptions.{SnapshotOptions}
 use Rattle.command_line.specs.declared.options.PagesOptions.{PagesOptions}
 use Rattle.command_line.specs.declared.options.DumpOptions.{DumpOptions}
@@ -43,6 +44,11 @@ abbrev pub index_paths : Request → Option (List Text)
 index_paths (request.Query options) = Some (map string_bytes options.indexes.items)
 index_paths _ = None
 
+-- what is asked in one line
+abbrev pub ask_options : Request → Option AskOptions
+ask_options (request.Ask options) = Some options
+ask_options _ = None
+
 -- what the index that is to be written is asked for with
 abbrev pub index_request : Request → Option IndexRequest
 index_request (request.Index given) = Some given
@@ -78,6 +84,7 @@ join_options _ = None
 abbrev pub explains : Request → Bool
 explains (request.Dump options) = options.explain
 explains (request.Query options) = options.explain
+explains (request.Ask options) = options.explain
 explains _ = false
 
 -- whether more commands are known to the program that answers them
@@ -85,6 +92,11 @@ abbrev pub knows_more : Request → Bool
 knows_more (request.Query options) = options.more
 knows_more (request.Shell given) = given.more
 knows_more _ = false
+
+-- whether it answers in JSON
+abbrev pub answers_json : Request → Bool
+answers_json (request.Query options) = options.json
+answers_json _ = false
 
 -- whether it reads commands
 abbrev pub reads_commands : Request → Bool

@@ -5,6 +5,7 @@ ghost use Rattle.clap.specs.Words.{rule_of};
 ghost use Rattle.command_line.specs.Arguments.{
   flag_rule,
   option_rule,
+  optional_rule,
   or_default,
   repeated,
   required_rule,
@@ -19,6 +20,13 @@ pub(crate) fn required<'a>(alloc: Global, name: &'a str, help: &'a str) -> Arg<'
     ensures { rule_of result ≡ required_rule name.entry.now }
 {
     Arg::new(alloc, name).help(help).required(true)
+}
+
+/// An argument that may be given.
+pub(crate) fn optional<'a>(alloc: Global, name: &'a str, help: &'a str) -> Arg<'a>
+    ensures { rule_of result ≡ optional_rule name.entry.now }
+{
+    Arg::new(alloc, name).help(help)
 }
 
 /// An option `--name VALUE` that takes any text.

@@ -4,6 +4,7 @@
 // What a command line asks for.
 mod reading;
 mod request;
+mod verb;
 
 // The programs, and the names and words that they take.
 mod names;
@@ -17,9 +18,10 @@ mod values;
 mod arguments;
 
 pub use options::{
-    DumpOptions, IndexOptions, IndexRequest, JoinOptions, Limits, Links, PackageFolder,
+    AskOptions, DumpOptions, IndexOptions, IndexRequest, JoinOptions, Limits, Links, PackageFolder,
     PagesOptions, QueryOptions, ReportOptions, STANDARD_INPUT, ShellRequest, SnapshotOptions,
     SourceList,
 };
 pub use reading::{request_of, request_of_process};
 pub use request::Request;
+pub use verb::Verb;

@@ -22,3 +22,22 @@ pub(crate) const ROOT: &str = "ROOT";
 
 /// The last argument that `index` and `pages` want, and the first one of `join`.
 pub(crate) const OUT: &str = "OUT";
+
+pub(crate) const DEF: &str = "def";
+
+pub(crate) const REF: &str = "ref";
+
+pub(crate) const HOVER: &str = "hover";
+
+pub(crate) const OUTLINE: &str = "outline";
+
+pub(crate) const FIND: &str = "find";
+
+pub(crate) const STATS: &str = "stats";
+
+pub(crate) const PRINT: &str = "print";
+
+pub(crate) const LINT: &str = "lint";
+
+/// The argument that `print` may have.
+pub(crate) const DOCUMENT: &str = "PATH";

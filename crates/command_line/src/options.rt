@@ -1,11 +1,11 @@
-//! What the programs are told by their options. Each option has a file: its name, words, default and text of help, and
-//! how it is read.
+//! What programs are told. Each option has a file: its name, words, default, text of help, and how it is read.
 
 ghost use Rattle.std.specs.Prelude.{◌≡◌, ◌++◌, IfOk, OnOk, map, string_bytes};
 ghost use Rattle.clap.specs.Words.{found_of, rows_of, rule_of};
 ghost use Rattle.command_line.specs.Options.{
   AreListed,
   Carries,
+  CarriesAsk,
   CarriesDump,
   CarriesIndex,
   CarriesJoin,
@@ -21,6 +21,7 @@ ghost use Rattle.command_line.specs.Options.{
   setting_rules,
   tree_rules,
 };
+ghost use Rattle.command_line.specs.Verbs.{asked_of};
 
 pub(crate) mod accept;
 pub(crate) mod also;
@@ -35,6 +36,7 @@ pub(crate) mod explain;
 mod faulty;
 mod include;
 pub(crate) mod joined_root;
+pub(crate) mod json;
 mod limits;
 mod links;
 pub(crate) mod more;
@@ -47,7 +49,9 @@ mod quiet;
 mod real;
 pub(crate) mod replace;
 pub(crate) mod report;
+pub(crate) mod root;
 pub(crate) mod sources;
+pub(crate) mod sync;
 pub(crate) mod to;
 mod well_known;
 mod workers;
@@ -62,6 +66,7 @@ use crate::options::duplicates::duplicates_of;
 use crate::options::explain::explains_in;
 use crate::options::faulty::faulty_of;
 use crate::options::include::package_folders_of;
+use crate::options::json::json_in;
 use crate::options::limits::limits_of;
 use crate::options::links::links_of;
 use crate::options::more::more_in;
@@ -72,9 +77,11 @@ use crate::options::real::is_real;
 use crate::options::replace::replaces_in;
 use crate::options::report::report_options_of;
 use crate::options::sources::sources_of;
+use crate::options::sync::sync_in;
 use crate::options::well_known::well_known_in;
 use crate::options::workers::workers_of;
 use crate::values::{optional_text_of, text_of, texts_of};
+use crate::verb::Verb;
 use clap::{Arg, ArgMatches};
 use comment_texts::CommentForm;
 pub use include::PackageFolder;
@@ -124,8 +131,7 @@ impl<'a> WordLists<'a> {
     }
 }
 
-/// The values of the argument ROOT and of the options of `index` and `shell`. An option that isn't given
-/// has its default.
+/// The values of the argument ROOT and of the options of `index` and `shell`: of one that isn't given its default.
 #[derive(Debug, Drop)]
 pub struct IndexOptions {
     /// The path of the folder whose sources are indexed, as it was written.
@@ -189,6 +195,8 @@ pub struct IndexRequest {
     pub out: String,
     /// Whether it isn't shown how far the run is.
     pub quiet: bool,
+    /// Whether the disk is to have the file, and the report, before the run ends.
+    pub sync: bool,
     /// The limits that the index has to keep.
     pub limits: Limits,
 }
@@ -211,6 +219,25 @@ pub struct QueryOptions {
     pub explain: bool,
     /// Whether more commands are known.
     pub more: bool,
+    /// Whether each answer is an object of JSON.
+    pub json: bool,
+}
+
+/// What a program is given that asks in one line.
+#[derive(Debug, Drop)]
+pub struct AskOptions {
+    /// What is asked.
+    pub verb: Verb,
+    /// The paths of the files that hold the indexes: INDEX, and those of `--also` in the order of the words.
+    pub indexes: Vec<String>,
+    /// What it is asked about.
+    pub asked: String,
+    /// The folder below which the sources of its documents are; no sources are read if it isn't given.
+    pub root: Option<String>,
+    /// Whether the answer is an object of JSON.
+    pub json: bool,
+    /// Whether a fault is explained.
+    pub explain: bool,
 }
 
 /// What `dump` is given.
@@ -259,6 +286,8 @@ pub struct JoinOptions {
     pub project_root: Option<String>,
     /// Whether a document takes the place of an earlier one with its path.
     pub replace: bool,
+    /// Whether the disk is to have the file before the run ends.
+    pub sync: bool,
     /// Whether a fault is explained.
     pub explain: bool,
 }
@@ -269,6 +298,7 @@ fn own_options<'a>(alloc: Global) -> Result<Vec<Arg<'a>>, AllocError>
 {
     Ok(vec![in alloc;
         quiet::arg(alloc),
+        sync::arg(alloc),
         limits::max_skipped(alloc),
         limits::min_sources(alloc),
     ]?)
@@ -404,6 +434,7 @@ pub(crate) fn index_request_of(
         options: options_of(alloc, given)?,
         out: text_of(alloc, given, OUT)?,
         quiet: quiet_in(given),
+        sync: sync_in(given),
         limits: limits_of(given),
     })
 }
@@ -433,6 +464,38 @@ pub(crate) fn query_options_of(
         indexes,
         explain: explains_in(given),
         more: more_in(given),
+        json: json_in(given),
+    })
+}
+
+/// What is asked about; no text where nothing is.
+fn asked_of(alloc: Global, verb: Verb, given: &ArgMatches<'_>) -> Result<String, AllocError>
+    ensures { IfOk result (λ text. string_bytes text ≡ asked_of verb (rows_of (found_of given.now))) }
+{
+    match verb {
+        Verb::Stats | Verb::Lint => Ok(String::new(alloc)),
+        _ => text_of(alloc, given, verb.argument()),
+    }
+}
+
+/// What a program is given that asks this in one line.
+pub(crate) fn ask_options_of(
+    alloc: Global,
+    verb: Verb,
+    given: &ArgMatches<'_>,
+) -> Result<AskOptions, AllocError>
+    ensures carries { IfOk result (CarriesAsk (rows_of (found_of given.now))) }
+    ensures verb { IfOk result (λ options. options.verb ≡ verb) }
+{
+    let files = indexes_of(alloc, given)?;
+    let asked = asked_of(alloc, verb, given)?;
+    Ok(AskOptions {
+        verb,
+        indexes: files,
+        asked,
+        root: optional_text_of(alloc, given, root::NAME)?,
+        json: json_in(given),
+        explain: explains_in(given),
     })
 }
 
@@ -492,6 +555,7 @@ pub(crate) fn join_options_of(
         indexes: texts_of(alloc, given, INDEX_FILE)?,
         project_root: optional_text_of(alloc, given, joined_root::NAME)?,
         replace: replaces_in(given),
+        sync: sync_in(given),
         explain: explains_in(given),
     })
 }

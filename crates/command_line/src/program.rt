@@ -5,6 +5,7 @@ ghost use Rattle.clap.specs.Words.{Shape, app_of, rule_of, with_subcommand};
 ghost use Rattle.clap.specs.declared.builder.command.Command.TheViews.{out-Command as fields_of};
 ghost use Rattle.command_line.specs.Program.{
   are_simple,
+  ask_line,
   command_line,
   dump_line,
   index_line,
@@ -14,15 +15,22 @@ ghost use Rattle.command_line.specs.Program.{
   pages_line,
   query_line,
   shell_line,
+  print_line,
   snapshot_line,
+  survey_line,
+  with_asking,
+  with_surveying,
 };
 
-use crate::arguments::{repeated, required};
-use crate::names::{DUMP, INDEX, INDEX_FILE, JOIN, OUT, PAGES, QUERY, ROOT, SHELL, SNAPSHOT};
+use crate::arguments::{optional, repeated, required};
+use crate::names::{
+    DOCUMENT, DUMP, INDEX, INDEX_FILE, JOIN, OUT, PAGES, PRINT, QUERY, ROOT, SHELL, SNAPSHOT,
+};
 use crate::options::{
     WordLists, accept, add_index_options, add_tree_options, also, custom_options, explain,
-    joined_root, more, replace, to,
+    joined_root, json, more, replace, root, sync, to,
 };
+use crate::verb::Verb;
 use basics::tool::{NAME, VERSION};
 use clap::{Arg, Command};
 use std::alloc::{AllocError, Global};
@@ -46,6 +54,40 @@ const SHELL_EXAMPLE: &str =
 const QUERY_EXAMPLE: &str = "Example: list the symbols of a document:
 
   echo 'sym shop/order.proto' | protoscip query api.scip";
+
+const DEF_EXAMPLE: &str =
+    "Example: show the line that defines a type, by its name or by a use of it:
+
+  protoscip def --root api api.scip shop.Order
+  protoscip def --root api api.scip shop/order.proto:12:3";
+
+const REF_EXAMPLE: &str = "Example: show the lines that name a type:
+
+  protoscip ref --root api api.scip shop.Order";
+
+const HOVER_EXAMPLE: &str = "Example: show how a type is declared and what documents it:
+
+  protoscip hover api.scip shop.Order";
+
+const OUTLINE_EXAMPLE: &str = "Example: show what a source defines:
+
+  protoscip outline api.scip shop/order.proto";
+
+const FIND_EXAMPLE: &str = "Example: show the definitions whose names begin with a text:
+
+  protoscip find api.scip ord";
+
+const STATS_EXAMPLE: &str = "Example: say how many documents and definitions an index has:
+
+  protoscip stats api.scip";
+
+const PRINT_EXAMPLE: &str = "Example: show what an index says of a source, as JSON:
+
+  protoscip print --json api.scip shop/order.proto";
+
+const LINT_EXAMPLE: &str = "Example: say what is wrong with an index of another tool:
+
+  protoscip lint other.scip";
 
 const SNAPSHOT_EXAMPLE: &str =
     "Example: show the sources below api with what the index says about them:
@@ -115,9 +157,100 @@ fn query_program<'a>(alloc: Global) -> Result<Command<'a>, AllocError>
     ensures local { IfOk result (λ c. (fields_of c).has_globals ≡ false) }
 {
     let about = "Answers commands from standard input about an index";
-    let index = required(alloc, INDEX_FILE, "A file with a SCIP index");
-    let args = vec![in alloc; repeated(index), more::arg(alloc), explain::arg(alloc)]?;
+    let file = required(alloc, INDEX_FILE, "A file with a SCIP index");
+    let args = vec![in alloc;
+        repeated(file),
+        more::arg(alloc),
+        json::arg(alloc),
+        explain::arg(alloc),
+    ]?;
     program_of(alloc, QUERY, about, QUERY_EXAMPLE, args)
+}
+
+/// What help says of a program that asks in one line.
+fn about_of(verb: Verb) -> &'static str {
+    match verb {
+        Verb::Def => "Shows where a symbol is defined",
+        Verb::Ref => "Shows where a symbol occurs, its definitions included",
+        Verb::Hover => "Shows how a symbol is declared, and its documentation",
+        Verb::Outline => "Shows what a source defines, in order of place",
+        Verb::Find => "Shows definitions by their names",
+        Verb::Stats => "Says how much an index has",
+        Verb::Print => "Shows the records of an index, or of one of its documents",
+        Verb::Lint => "Says what an index lacks, or says against itself",
+    }
+}
+
+/// And of what it is asked about.
+fn argument_help(verb: Verb) -> &'static str {
+    match verb {
+        Verb::Def | Verb::Ref | Verb::Hover => {
+            "A place in a source, PATH:LINE:COLUMN from 1, or a name, or the end of a full name"
+        }
+        Verb::Outline => "The path of the source, as the index has it",
+        Verb::Find => "A name, the end of a full name, or how one begins",
+        Verb::Print => "The path of a document: only its records are shown",
+        Verb::Stats | Verb::Lint => "",
+    }
+}
+
+/// And its example.
+fn example_of(verb: Verb) -> &'static str {
+    match verb {
+        Verb::Def => DEF_EXAMPLE,
+        Verb::Ref => REF_EXAMPLE,
+        Verb::Hover => HOVER_EXAMPLE,
+        Verb::Outline => OUTLINE_EXAMPLE,
+        Verb::Find => FIND_EXAMPLE,
+        Verb::Stats => STATS_EXAMPLE,
+        Verb::Print => PRINT_EXAMPLE,
+        Verb::Lint => LINT_EXAMPLE,
+    }
+}
+
+/// The command line of a program that asks in one line.
+fn ask_program<'a>(alloc: Global, verb: Verb) -> Result<Command<'a>, AllocError>
+    ensures line { IfOk result (λ c. (app_of c).top ≡ ask_line verb) }
+    ensures local { IfOk result (λ c. (fields_of c).has_globals ≡ false) }
+{
+    let args = vec![in alloc;
+        required(alloc, INDEX_FILE, "A file with a SCIP index"),
+        required(alloc, verb.argument(), argument_help(verb)),
+        also::arg(alloc),
+        root::arg(alloc),
+        json::arg(alloc),
+        explain::arg(alloc),
+    ]?;
+    program_of(alloc, verb.name(), about_of(verb), example_of(verb), args)
+}
+
+/// The command line of a program that tells of an index as a whole.
+fn survey_program<'a>(alloc: Global, verb: Verb) -> Result<Command<'a>, AllocError>
+    ensures line { IfOk result (λ c. (app_of c).top ≡ survey_line verb) }
+    ensures local { IfOk result (λ c. (fields_of c).has_globals ≡ false) }
+{
+    let args = vec![in alloc;
+        required(alloc, INDEX_FILE, "A file with a SCIP index"),
+        also::arg(alloc),
+        json::arg(alloc),
+        explain::arg(alloc),
+    ]?;
+    program_of(alloc, verb.name(), about_of(verb), example_of(verb), args)
+}
+
+/// The command line of `print`.
+fn print_program<'a>(alloc: Global) -> Result<Command<'a>, AllocError>
+    ensures line { IfOk result (λ c. (app_of c).top ≡ print_line) }
+    ensures local { IfOk result (λ c. (fields_of c).has_globals ≡ false) }
+{
+    let args = vec![in alloc;
+        required(alloc, INDEX_FILE, "A file with a SCIP index"),
+        optional(alloc, DOCUMENT, argument_help(Verb::Print)),
+        also::arg(alloc),
+        json::arg(alloc),
+        explain::arg(alloc),
+    ]?;
+    program_of(alloc, PRINT, about_of(Verb::Print), PRINT_EXAMPLE, args)
 }
 
 /// The command line of `snapshot`.
@@ -165,6 +298,7 @@ fn join_program<'a>(alloc: Global) -> Result<Command<'a>, AllocError>
         repeated(index),
         joined_root::arg(alloc),
         replace::arg(alloc),
+        sync::arg(alloc),
         explain::arg(alloc),
     ]?;
     program_of(alloc, JOIN, about, JOIN_EXAMPLE, args)
@@ -206,6 +340,26 @@ fn with_program<'a>(
     line.subcommand(program?)
 }
 
+/// Adds the programs that ask in one line.
+fn with_asking<'a>(alloc: Global, line: Command<'a>) -> Result<Command<'a>, AllocError>
+    ensures { IfOk result (λ c. app_of c ≡ with_asking (app_of line.entry)) }
+{
+    let defining = with_program(line, ask_program(alloc, Verb::Def))?;
+    let referring = with_program(defining, ask_program(alloc, Verb::Ref))?;
+    let hovering = with_program(referring, ask_program(alloc, Verb::Hover))?;
+    let outlining = with_program(hovering, ask_program(alloc, Verb::Outline))?;
+    with_program(outlining, ask_program(alloc, Verb::Find))
+}
+
+/// Adds the programs that tell of an index as a whole.
+fn with_surveying<'a>(alloc: Global, line: Command<'a>) -> Result<Command<'a>, AllocError>
+    ensures { IfOk result (λ c. app_of c ≡ with_surveying (app_of line.entry)) }
+{
+    let counting = with_program(line, survey_program(alloc, Verb::Stats))?;
+    let printing = with_program(counting, print_program(alloc))?;
+    with_program(printing, survey_program(alloc, Verb::Lint))
+}
+
 /// The command line's programs and options.
 pub(crate) fn program<'a>(alloc: Global, lists: WordLists<'a>) -> Result<Command<'a>, AllocError>
     ensures { IfOk result (λ c. app_of c ≡ command_line lists.entry) }
@@ -216,5 +370,7 @@ pub(crate) fn program<'a>(alloc: Global, lists: WordLists<'a>) -> Result<Command
     let showing = with_program(querying, snapshot_program(alloc))?;
     let paging = with_program(showing, pages_program(alloc))?;
     let joining = with_program(paging, join_program(alloc))?;
-    with_program(joining, dump_program(alloc, lists))
+    let dumping = with_program(joining, dump_program(alloc, lists))?;
+    let asking = with_asking(alloc, dumping)?;
+    with_surveying(alloc, asking)
 }

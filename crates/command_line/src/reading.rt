@@ -1,26 +1,31 @@
 //! What the words of a command line ask for.
 
+ghost use Rattle.std.specs.Option.{option_map};
 ghost use Rattle.std.specs.Prelude.{◌≢◌, ◌≡◌, IfOk, IfErr, IsErr, map, string_bytes};
 ghost use Rattle.std.specs.IoError.{error_kind};
 ghost use Rattle.std.specs.declared.io.ErrorKind.TheVariants.{OutOfMemory as Memory};
-ghost use Rattle.clap.specs.Words.{kind_of, subcommand_rows_of};
+ghost use Rattle.clap.specs.Words.{found_of, kind_of, rows_of, subcommand_rows_of};
 ghost use Rattle.command_line.specs.Asks.{Asks, AsksFor, Names, is_unfit};
 ghost use Rattle.command_line.specs.Options.{CarriesDump};
 ghost use Rattle.command_line.specs.Requests.{IsRefused, Prints};
 ghost use Rattle.command_line.specs.Values.{rows_in};
+ghost use Rattle.command_line.specs.Verbs.{IsAsking, IsSurveying};
 
-use crate::names::{INDEX, JOIN, PAGES, QUERY, SHELL, SNAPSHOT};
+use crate::names::{
+    DEF, FIND, HOVER, INDEX, JOIN, LINT, OUTLINE, PAGES, PRINT, QUERY, REF, SHELL, SNAPSHOT, STATS,
+};
 use crate::options::accept::add_what_all_is;
 use crate::options::at::{NO_FOLDER, is_nowhere};
 use crate::options::options_linked::{NOT_OF_PROTO3, links_in_proto3};
 use crate::options::report::{FORM_ALONE, lacks_report};
 use crate::options::sources::{COMMANDS_THERE, lists_commands};
 use crate::options::{
-    DumpOptions, WordLists, dump_options_of, index_request_of, join_options_of, pages_options_of,
-    query_options_of, shell_request_of, snapshot_options_of,
+    DumpOptions, WordLists, ask_options_of, dump_options_of, index_request_of, join_options_of,
+    pages_options_of, query_options_of, shell_request_of, snapshot_options_of,
 };
 use crate::program::program;
 use crate::request::Request;
+use crate::verb::Verb;
 use clap::error::ErrorKind;
 use clap::{ArgMatches, Error};
 use proto_parse::{CustomOptions, Dialect};
@@ -64,6 +69,45 @@ fn asked(alloc: Global, matches: &ArgMatches<'_>) -> Result<Request, AllocError>
     named(alloc, matches)
 }
 
+/// What is asked in one line, if the program that is named asks so, and what it is given.
+fn asking<'a, 'b>(matches: &'b ArgMatches<'a>) -> Option<(Verb, &'b ArgMatches<'a>)>
+    ensures { IsAsking (subcommand_rows_of matches.now) (option_map (λ a. (a.0, rows_of (found_of a.1.now))) result) }
+{
+    if let Some(given) = matches.subcommand_matches(DEF) {
+        return Some((Verb::Def, given));
+    }
+    if let Some(given) = matches.subcommand_matches(REF) {
+        return Some((Verb::Ref, given));
+    }
+    if let Some(given) = matches.subcommand_matches(HOVER) {
+        return Some((Verb::Hover, given));
+    }
+    if let Some(given) = matches.subcommand_matches(OUTLINE) {
+        return Some((Verb::Outline, given));
+    }
+    if let Some(given) = matches.subcommand_matches(FIND) {
+        return Some((Verb::Find, given));
+    }
+    surveying(matches)
+}
+
+/// What is told of an index as a whole, if the program that is named tells that, and what it is given.
+fn surveying<'a, 'b>(matches: &'b ArgMatches<'a>) -> Option<(Verb, &'b ArgMatches<'a>)>
+    ensures { IsSurveying (subcommand_rows_of matches.now)
+        (option_map (λ a. (a.0, rows_of (found_of a.1.now))) result) }
+{
+    if let Some(given) = matches.subcommand_matches(STATS) {
+        return Some((Verb::Stats, given));
+    }
+    if let Some(given) = matches.subcommand_matches(PRINT) {
+        return Some((Verb::Print, given));
+    }
+    if let Some(given) = matches.subcommand_matches(LINT) {
+        return Some((Verb::Lint, given));
+    }
+    None
+}
+
 /// The program that a command line names, with what it is given.
 fn named(alloc: Global, matches: &ArgMatches<'_>) -> Result<Request, AllocError>
     ensures { IfOk result (Names (subcommand_rows_of matches.now)) }
@@ -86,7 +130,10 @@ fn named(alloc: Global, matches: &ArgMatches<'_>) -> Result<Request, AllocError>
     if let Some(given) = matches.subcommand_matches(JOIN) {
         return Ok(Request::Join(join_options_of(alloc, given)?));
     }
-    Ok(Request::Dump(dump_options(matches)))
+    match asking(matches) {
+        Some((verb, given)) => Ok(Request::Ask(ask_options_of(alloc, verb, given)?)),
+        None => Ok(Request::Dump(dump_options(matches))),
+    }
 }
 
 /// What `dump` is given, if it is the program that is named.

@@ -1,7 +1,7 @@
 //! What a command line asks for.
 
 use crate::options::{
-    DumpOptions, IndexRequest, JoinOptions, PagesOptions, QueryOptions, ShellRequest,
+    AskOptions, DumpOptions, IndexRequest, JoinOptions, PagesOptions, QueryOptions, ShellRequest,
     SnapshotOptions,
 };
 
@@ -12,6 +12,8 @@ pub enum Request {
     Dump(DumpOptions),
     /// The program `query`, about the index that a file holds.
     Query(QueryOptions),
+    /// What is asked in one line about the index that files hold.
+    Ask(AskOptions),
     /// The program `snapshot`.
     Snapshot(SnapshotOptions),
     /// The program `pages`.

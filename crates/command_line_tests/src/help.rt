@@ -14,7 +14,7 @@ type Printed = (
 );
 
 // The last row reads: `protoscip --version` prints one line.
-static PRINTED: [Printed; 9] = [
+static PRINTED: [Printed; 11] = [
     (
         "--help",
         "Indexes proto3 sources and writes SCIP
@@ -29,6 +29,14 @@ Commands:
   pages     Makes pages of the sources of an index, to be read in a browser
   join      Makes one index of several and writes it to a file
   dump      Indexes one source from standard input and prints its occurrences
+  def       Shows where a symbol is defined
+  ref       Shows where a symbol occurs, its definitions included
+  hover     Shows how a symbol is declared, and its documentation
+  outline   Shows what a source defines, in order of place
+  find      Shows definitions by their names
+  stats     Says how much an index has
+  print     Shows the records of an index, or of one of its documents
+  lint      Says what an index lacks, or says against itself
   help      Print this message or the help of the given subcommand(s)
 
 Options:
@@ -98,6 +106,7 @@ Arguments:
 
 Options:
       --more     Knows more commands, as on a terminal; the command help lists them
+      --json     Answers in JSON, with one object on a line
       --explain  Explains a fault: adds its line and column, a sentence, and the text of that line
   -h, --help     Print help
 
@@ -167,12 +176,61 @@ Arguments:
 Options:
       --project-root <URI>  Where the sources' folder is; if not given, all indexes have to name the same folder
       --replace             Takes the later of two documents with one path; without it, they are refused
+      --sync                Waits until the disk has what is written, and its folder's entry (fsync)
       --explain             Explains a fault: adds its line and column, a sentence, and the text of that line
   -h, --help                Print help
 
 Example: make one index of those of two parts of a project:
 
   protoscip join all.scip api.scip internal.scip
+",
+        "",
+        None,
+    ),
+    (
+        "def --help",
+        "Shows where a symbol is defined
+
+Usage: protoscip def [OPTIONS] <INDEX> <PLACE|NAME>
+
+Arguments:
+  <INDEX>       A file with a SCIP index
+  <PLACE|NAME>  A place in a source, PATH:LINE:COLUMN from 1, or a name, or the end of a full name
+
+Options:
+      --also <INDEX>  A file with an index that is taken as one with INDEX; may be given again
+      --root <DIR>    The folder with the sources that were indexed: answers show their lines
+      --json          Answers in JSON, with one object on a line
+      --explain       Explains a fault: adds its line and column, a sentence, and the text of that line
+  -h, --help          Print help
+
+Example: show the line that defines a type, by its name or by a use of it:
+
+  protoscip def --root api api.scip shop.Order
+  protoscip def --root api api.scip shop/order.proto:12:3
+",
+        "",
+        None,
+    ),
+    (
+        "print --help",
+        "Shows the records of an index, or of one of its documents
+
+Usage: protoscip print [OPTIONS] <INDEX> [PATH]
+
+Arguments:
+  <INDEX>  A file with a SCIP index
+  [PATH]   The path of a document: only its records are shown
+
+Options:
+      --also <INDEX>  A file with an index that is taken as one with INDEX; may be given again
+      --json          Answers in JSON, with one object on a line
+      --explain       Explains a fault: adds its line and column, a sentence, and the text of that line
+  -h, --help          Print help
+
+Example: show what an index says of a source, as JSON:
+
+  protoscip print --json api.scip shop/order.proto
 ",
         "",
         None,

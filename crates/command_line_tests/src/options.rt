@@ -8,6 +8,8 @@ use std::test::Fail;
 /// The options of `index` alone, as its help shows them.
 pub(crate) const OWN_OPTIONS: &str = "      --quiet
           Shows no progress; without it, a terminal shows some after a second
+      --sync
+          Waits until the disk has what is written, and its folder's entry (fsync)
       --max-skipped <N>
           If --faulty skip leaves out more files than this, OUT stays as it was and the status is 1
       --min-sources <N>
@@ -79,18 +81,46 @@ struct Asked {
 
 // The fourth row reads: `dump --explain --custom-options skip` asks for a dump that reads past custom options, and
 // explains a fault.
-static ASKED: [Asked; 24] = [
+static ASKED: [Asked; 31] = [
     Asked {
         words: "query a.scip",
-        request: "Query(QueryOptions { indexes: [\"a.scip\"], explain: false, more: false })",
+        request: "Query(QueryOptions { indexes: [\"a.scip\"], explain: false, more: false, json: false })",
     },
     Asked {
         words: "query --explain a.scip --more",
-        request: "Query(QueryOptions { indexes: [\"a.scip\"], explain: true, more: true })",
+        request: "Query(QueryOptions { indexes: [\"a.scip\"], explain: true, more: true, json: false })",
     },
     Asked {
         words: "query a b --more a -- -c",
-        request: "Query(QueryOptions { indexes: [\"a\", \"b\", \"a\", \"-c\"], explain: false, more: true })",
+        request: "Query(QueryOptions { indexes: [\"a\", \"b\", \"a\", \"-c\"], explain: false, more: true, json: false })",
+    },
+    Asked {
+        words: "query a.scip --json",
+        request: "Query(QueryOptions { indexes: [\"a.scip\"], explain: false, more: false, json: true })",
+    },
+    Asked {
+        words: "def a.scip shop.Order",
+        request: "Ask(AskOptions { verb: Def, indexes: [\"a.scip\"], asked: \"shop.Order\", root: None, json: false, explain: false })",
+    },
+    Asked {
+        words: "hover --json --also b a.scip --root api a.proto:1:2 --explain",
+        request: "Ask(AskOptions { verb: Hover, indexes: [\"a.scip\", \"b\"], asked: \"a.proto:1:2\", root: Some(\"api\"), json: true, explain: true })",
+    },
+    Asked {
+        words: "stats a.scip --also b",
+        request: "Ask(AskOptions { verb: Stats, indexes: [\"a.scip\", \"b\"], asked: \"\", root: None, json: false, explain: false })",
+    },
+    Asked {
+        words: "print --json a.scip b.proto",
+        request: "Ask(AskOptions { verb: Print, indexes: [\"a.scip\"], asked: \"b.proto\", root: None, json: true, explain: false })",
+    },
+    Asked {
+        words: "print a.scip",
+        request: "Ask(AskOptions { verb: Print, indexes: [\"a.scip\"], asked: \"\", root: None, json: false, explain: false })",
+    },
+    Asked {
+        words: "find a.scip -- -x",
+        request: "Ask(AskOptions { verb: Find, indexes: [\"a.scip\"], asked: \"-x\", root: None, json: false, explain: false })",
     },
     Asked {
         words: "dump",
@@ -106,11 +136,11 @@ static ASKED: [Asked; 24] = [
     },
     Asked {
         words: "index api out",
-        request: "Index(IndexRequest { options: IndexOptions { root: \"api\", is_real: false, workers: Workers { count: 4 }, project_root: \"file:///\", at: \"\", manager: \"\", package: \"\", release: \"\", only: None, doc: None, comments: Raw, details: false, include: [], include_packages: [], well_known: false, encoding: Utf8, dialect: Proto3(Refuse), links_options: false, faulty: Refuse, duplicates: Refuse, explain: false, exclude: [], links: Ignore, sources: None, report: ReportOptions { path: None, format: JsonLines } }, out: \"out\", quiet: false, limits: Limits { max_skipped: None, min_sources: None } })",
+        request: "Index(IndexRequest { options: IndexOptions { root: \"api\", is_real: false, workers: Workers { count: 4 }, project_root: \"file:///\", at: \"\", manager: \"\", package: \"\", release: \"\", only: None, doc: None, comments: Raw, details: false, include: [], include_packages: [], well_known: false, encoding: Utf8, dialect: Proto3(Refuse), links_options: false, faulty: Refuse, duplicates: Refuse, explain: false, exclude: [], links: Ignore, sources: None, report: ReportOptions { path: None, format: JsonLines } }, out: \"out\", quiet: false, sync: false, limits: Limits { max_skipped: None, min_sources: None } })",
     },
     Asked {
-        words: "index --workers 2 --quiet --max-skipped 3 --min-sources=812 --report f --report-format sarif --project-root u --at d/.e --manager m --package p --release r --only o --doc both --comments clean --details --include j --include i --positions utf16 --accept all --custom-options skip --options link --faulty skip --duplicates keep --explain api out",
-        request: "Index(IndexRequest { options: IndexOptions { root: \"api\", is_real: false, workers: Workers { count: 2 }, project_root: \"u\", at: \"d/.e\", manager: \"m\", package: \"p\", release: \"r\", only: Some(\"o\"), doc: Some(Both), comments: Clean, details: true, include: [\"j\", \"i\"], include_packages: [], well_known: false, encoding: Utf16, dialect: All, links_options: true, faulty: Skip, duplicates: Keep, explain: true, exclude: [], links: Ignore, sources: None, report: ReportOptions { path: Some(\"f\"), format: Sarif } }, out: \"out\", quiet: true, limits: Limits { max_skipped: Some(3), min_sources: Some(812) } })",
+        words: "index --workers 2 --quiet --sync --max-skipped 3 --min-sources=812 --report f --report-format sarif --project-root u --at d/.e --manager m --package p --release r --only o --doc both --comments clean --details --include j --include i --positions utf16 --accept all --custom-options skip --options link --faulty skip --duplicates keep --explain api out",
+        request: "Index(IndexRequest { options: IndexOptions { root: \"api\", is_real: false, workers: Workers { count: 2 }, project_root: \"u\", at: \"d/.e\", manager: \"m\", package: \"p\", release: \"r\", only: Some(\"o\"), doc: Some(Both), comments: Clean, details: true, include: [\"j\", \"i\"], include_packages: [], well_known: false, encoding: Utf16, dialect: All, links_options: true, faulty: Skip, duplicates: Keep, explain: true, exclude: [], links: Ignore, sources: None, report: ReportOptions { path: Some(\"f\"), format: Sarif } }, out: \"out\", quiet: true, sync: true, limits: Limits { max_skipped: Some(3), min_sources: Some(812) } })",
     },
     Asked {
         words: "shell --more --workers 16 --project-root=u --at=.../-d --manager=m --package=p --release=r --report=f --report-format=jsonl --only=o --doc=trailing --comments=raw --include=i --positions=utf8 --accept=proto3 --custom-options=refuse --options=skip --faulty=refuse -- -api",
@@ -118,19 +148,19 @@ static ASKED: [Asked; 24] = [
     },
     Asked {
         words: "index api --include a --include-package m n r d --include b out --include-package '' '' '' e --include c",
-        request: "Index(IndexRequest { options: IndexOptions { root: \"api\", is_real: false, workers: Workers { count: 4 }, project_root: \"file:///\", at: \"\", manager: \"\", package: \"\", release: \"\", only: None, doc: None, comments: Raw, details: false, include: [\"a\", \"b\", \"c\"], include_packages: [PackageFolder { manager: \"m\", name: \"n\", release: \"r\", folder: \"d\" }, PackageFolder { manager: \"\", name: \"\", release: \"\", folder: \"e\" }], well_known: false, encoding: Utf8, dialect: Proto3(Refuse), links_options: false, faulty: Refuse, duplicates: Refuse, explain: false, exclude: [], links: Ignore, sources: None, report: ReportOptions { path: None, format: JsonLines } }, out: \"out\", quiet: false, limits: Limits { max_skipped: None, min_sources: None } })",
+        request: "Index(IndexRequest { options: IndexOptions { root: \"api\", is_real: false, workers: Workers { count: 4 }, project_root: \"file:///\", at: \"\", manager: \"\", package: \"\", release: \"\", only: None, doc: None, comments: Raw, details: false, include: [\"a\", \"b\", \"c\"], include_packages: [PackageFolder { manager: \"m\", name: \"n\", release: \"r\", folder: \"d\" }, PackageFolder { manager: \"\", name: \"\", release: \"\", folder: \"e\" }], well_known: false, encoding: Utf8, dialect: Proto3(Refuse), links_options: false, faulty: Refuse, duplicates: Refuse, explain: false, exclude: [], links: Ignore, sources: None, report: ReportOptions { path: None, format: JsonLines } }, out: \"out\", quiet: false, sync: false, limits: Limits { max_skipped: None, min_sources: None } })",
     },
     Asked {
         words: "index api out --max-skipped +0 --min-sources 04294967295 --report f",
-        request: "Index(IndexRequest { options: IndexOptions { root: \"api\", is_real: false, workers: Workers { count: 4 }, project_root: \"file:///\", at: \"\", manager: \"\", package: \"\", release: \"\", only: None, doc: None, comments: Raw, details: false, include: [], include_packages: [], well_known: false, encoding: Utf8, dialect: Proto3(Refuse), links_options: false, faulty: Refuse, duplicates: Refuse, explain: false, exclude: [], links: Ignore, sources: None, report: ReportOptions { path: Some(\"f\"), format: JsonLines } }, out: \"out\", quiet: false, limits: Limits { max_skipped: Some(0), min_sources: Some(4294967295) } })",
+        request: "Index(IndexRequest { options: IndexOptions { root: \"api\", is_real: false, workers: Workers { count: 4 }, project_root: \"file:///\", at: \"\", manager: \"\", package: \"\", release: \"\", only: None, doc: None, comments: Raw, details: false, include: [], include_packages: [], well_known: false, encoding: Utf8, dialect: Proto3(Refuse), links_options: false, faulty: Refuse, duplicates: Refuse, explain: false, exclude: [], links: Ignore, sources: None, report: ReportOptions { path: Some(\"f\"), format: JsonLines } }, out: \"out\", quiet: false, sync: false, limits: Limits { max_skipped: Some(0), min_sources: Some(4294967295) } })",
     },
     Asked {
         words: "index api --exclude .git --links follow --exclude=a/**/b out --well-known",
-        request: "Index(IndexRequest { options: IndexOptions { root: \"api\", is_real: false, workers: Workers { count: 4 }, project_root: \"file:///\", at: \"\", manager: \"\", package: \"\", release: \"\", only: None, doc: None, comments: Raw, details: false, include: [], include_packages: [], well_known: true, encoding: Utf8, dialect: Proto3(Refuse), links_options: false, faulty: Refuse, duplicates: Refuse, explain: false, exclude: [\".git\", \"a/**/b\"], links: Follow, sources: None, report: ReportOptions { path: None, format: JsonLines } }, out: \"out\", quiet: false, limits: Limits { max_skipped: None, min_sources: None } })",
+        request: "Index(IndexRequest { options: IndexOptions { root: \"api\", is_real: false, workers: Workers { count: 4 }, project_root: \"file:///\", at: \"\", manager: \"\", package: \"\", release: \"\", only: None, doc: None, comments: Raw, details: false, include: [], include_packages: [], well_known: true, encoding: Utf8, dialect: Proto3(Refuse), links_options: false, faulty: Refuse, duplicates: Refuse, explain: false, exclude: [\".git\", \"a/**/b\"], links: Follow, sources: None, report: ReportOptions { path: None, format: JsonLines } }, out: \"out\", quiet: false, sync: false, limits: Limits { max_skipped: None, min_sources: None } })",
     },
     Asked {
         words: "index api --real --include i out",
-        request: "Index(IndexRequest { options: IndexOptions { root: \"api\", is_real: true, workers: Workers { count: 4 }, project_root: \"file:///\", at: \"\", manager: \"\", package: \"\", release: \"\", only: None, doc: Some(Both), comments: Clean, details: true, include: [\"i\"], include_packages: [], well_known: true, encoding: Utf8, dialect: All, links_options: true, faulty: Skip, duplicates: Keep, explain: false, exclude: [], links: Ignore, sources: None, report: ReportOptions { path: None, format: JsonLines } }, out: \"out\", quiet: false, limits: Limits { max_skipped: None, min_sources: None } })",
+        request: "Index(IndexRequest { options: IndexOptions { root: \"api\", is_real: true, workers: Workers { count: 4 }, project_root: \"file:///\", at: \"\", manager: \"\", package: \"\", release: \"\", only: None, doc: Some(Both), comments: Clean, details: true, include: [\"i\"], include_packages: [], well_known: true, encoding: Utf8, dialect: All, links_options: true, faulty: Skip, duplicates: Keep, explain: false, exclude: [], links: Ignore, sources: None, report: ReportOptions { path: None, format: JsonLines } }, out: \"out\", quiet: false, sync: false, limits: Limits { max_skipped: None, min_sources: None } })",
     },
     Asked {
         words: "shell --options skip --real api",
@@ -166,15 +196,15 @@ static ASKED: [Asked; 24] = [
     },
     Asked {
         words: "index api out --sources -",
-        request: "Index(IndexRequest { options: IndexOptions { root: \"api\", is_real: false, workers: Workers { count: 4 }, project_root: \"file:///\", at: \"\", manager: \"\", package: \"\", release: \"\", only: None, doc: None, comments: Raw, details: false, include: [], include_packages: [], well_known: false, encoding: Utf8, dialect: Proto3(Refuse), links_options: false, faulty: Refuse, duplicates: Refuse, explain: false, exclude: [], links: Ignore, sources: Some(SourceList { file: \"-\", listed: [] }), report: ReportOptions { path: None, format: JsonLines } }, out: \"out\", quiet: false, limits: Limits { max_skipped: None, min_sources: None } })",
+        request: "Index(IndexRequest { options: IndexOptions { root: \"api\", is_real: false, workers: Workers { count: 4 }, project_root: \"file:///\", at: \"\", manager: \"\", package: \"\", release: \"\", only: None, doc: None, comments: Raw, details: false, include: [], include_packages: [], well_known: false, encoding: Utf8, dialect: Proto3(Refuse), links_options: false, faulty: Refuse, duplicates: Refuse, explain: false, exclude: [], links: Ignore, sources: Some(SourceList { file: \"-\", listed: [] }), report: ReportOptions { path: None, format: JsonLines } }, out: \"out\", quiet: false, sync: false, limits: Limits { max_skipped: None, min_sources: None } })",
     },
     Asked {
         words: "join all a",
-        request: "Join(JoinOptions { out: \"all\", indexes: [\"a\"], project_root: None, replace: false, explain: false })",
+        request: "Join(JoinOptions { out: \"all\", indexes: [\"a\"], project_root: None, replace: false, sync: false, explain: false })",
     },
     Asked {
-        words: "join all a --replace b --project-root u --explain a",
-        request: "Join(JoinOptions { out: \"all\", indexes: [\"a\", \"b\", \"a\"], project_root: Some(\"u\"), replace: true, explain: true })",
+        words: "join all a --replace b --project-root u --sync --explain a",
+        request: "Join(JoinOptions { out: \"all\", indexes: [\"a\", \"b\", \"a\"], project_root: Some(\"u\"), replace: true, sync: true, explain: true })",
     },
 ];
 
@@ -333,7 +363,7 @@ fn words_of_the_system(rt: HostRuntime) -> Result<(), Fail> {
     see(
         &rt,
         text.as_str()
-            == "Query(QueryOptions { indexes: [\"a.scip\"], explain: false, more: false })",
+            == "Query(QueryOptions { indexes: [\"a.scip\"], explain: false, more: false, json: false })",
         text.as_str(),
     );
     Ok(())

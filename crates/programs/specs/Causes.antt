@@ -8,7 +8,8 @@ use Rattle.streams.specs.Writers.{AreTold, IsUntouched, Writer}
 use Rattle.source_files.specs.Causes.{words_of}
 use Rattle.source_files.specs.declared.cause.Cause.{Cause}
 use Rattle.command_line.specs.declared.request.Request.{Request}
-use Rattle.command_line.specs.declared.request.Request.TheVariants.{Dump, Query, Snapshot, Pages, Join, Index, Shell}
+use Rattle.command_line.specs.declared.request.Request.TheVariants.{Ask, Dump, Query, Snapshot, Pages, Join}
+use Rattle.command_line.specs.declared.request.Request.TheVariants.{Index, Shell}
 use Rattle.command_line.specs.declared.request.Request.TheVariants.{Print, Refuse}
 use Rattle.programs.specs.Asked.{report_path}
 
@@ -33,6 +34,7 @@ IsReasoned blames (Some path) told text =
 abbrev pub is_explained : Result Request AllocError → Bool
 is_explained (Ok (Dump options)) = options.explain
 is_explained (Ok (Query options)) = options.explain
+is_explained (Ok (Ask options)) = options.explain
 is_explained (Ok (Snapshot options)) = options.explain
 is_explained (Ok (Pages options)) = options.explain
 is_explained (Ok (Join options)) = options.explain
@@ -46,6 +48,7 @@ is_explained (Err refused) = false
 abbrev pub made_name : Result Request AllocError → List ℕ
 made_name (Ok (Dump options)) = []
 made_name (Ok (Query options)) = []
+made_name (Ok (Ask options)) = []
 made_name (Ok (Snapshot options)) = unwrap_or (option_map string_bytes options.to) []
 made_name (Ok (Pages options)) = string_bytes options.out
 made_name (Ok (Join options)) = string_bytes options.out

@@ -3,7 +3,7 @@
 use Rattle.std.specs.Prelude.{Bool, true, ℕ, List, [], ◌++◌, Option, None, Some, codes, unwrap_or}
 use Rattle.std.specs.List.{slice_get}
 use Rattle.protoscip.specs.Lines.{path_line, plain_line}
-use Rattle.protoscip.specs.declared.statuses.TheConstants.{MEMORY_STATUS, STREAM_STATUS}
+use Rattle.protoscip.specs.Statuses.{memory_status, stream_status}
 use Rattle.programs.specs.Causes.{IsReasoned}
 use Rattle.programs.specs.FaultTexts.{explained}
 use Rattle.programs.specs.IndexFaults.{line_of as line_of_read, explanation_of as explanation_of_read}
@@ -15,7 +15,7 @@ use Rattle.programs.specs.declared.files_fault.ToldBy.{ToldBy}
 use Rattle.programs.specs.declared.files_fault.ToldBy.TheVariants.{Join, Other}
 use Rattle.programs.specs.declared.index_fault.IndexFault.{IndexFault}
 use Rattle.programs.specs.declared.index_fault.IndexFault.TheVariants.{Unreadable}
-use Rattle.programs.specs.declared.statuses.TheConstants.{INDEX_STATUS}
+use Rattle.programs.specs.Statuses.{index_status}
 
 -- the path with this number, from 0; empty if there is none
 abbrev pub path_at : (paths : List (List ℕ)) → ℕ → List ℕ
@@ -53,11 +53,11 @@ explanation_of by Memory = []
 -- memory runs out
 abbrev pub status_of : FilesFault → ℕ
 status_of (Read number fault) = status_of_read fault
-status_of (OtherRoot number) = INDEX_STATUS
-status_of (OtherEncoding number) = INDEX_STATUS
-status_of (Twice two) = INDEX_STATUS
-status_of TooLarge = STREAM_STATUS
-status_of Memory = MEMORY_STATUS
+status_of (OtherRoot number) = index_status
+status_of (OtherEncoding number) = index_status
+status_of (Twice two) = index_status
+status_of TooLarge = stream_status
+status_of Memory = memory_status
 
 -- the line, explained if that is asked for
 abbrev pub told : (by : ToldBy) → (explain : Bool) → (paths : List (List ℕ)) → FilesFault → List ℕ

@@ -5,12 +5,12 @@ use Rattle.scip_wire.specs.WireFaults.{name_of as wire_name}
 use Rattle.scip_wire.specs.declared.wire_fault.WireFault.{WireFault}
 use Rattle.scip_wire.specs.declared.wire_fault.WireFault.TheVariants as wire
 use Rattle.protoscip.specs.Lines.{line_at, path_line, plain_line}
-use Rattle.protoscip.specs.declared.statuses.TheConstants.{MEMORY_STATUS, STREAM_STATUS}
+use Rattle.protoscip.specs.Statuses.{memory_status, stream_status}
 use Rattle.programs.specs.declared.index_fault.IndexPlace.{IndexPlace}
 use Rattle.programs.specs.declared.index_fault.IndexPlace.TheVariants.{Nowhere, WholeFile, Offset}
 use Rattle.programs.specs.declared.index_fault.IndexFault.{IndexFault}
 use Rattle.programs.specs.declared.index_fault.IndexFault.TheVariants.{Unreadable, Wire, Memory}
-use Rattle.programs.specs.declared.statuses.TheConstants.{INDEX_STATUS}
+use Rattle.programs.specs.Statuses.{index_status}
 
 -- the name in its line, and where in the index's file that says it is; what explains it, behind a line end, but nothing
 -- for lack of memory; and the exit status: 3 if the file can't be read, 5 if the file holds no index, 4 if memory
@@ -33,7 +33,7 @@ nowhere name explanation status = said name Nowhere explanation status
 
 -- at the offset of the record that can't be read
 abbrev pub no_index : (name : List ℕ) → (at : ℕ) → (explanation : List ℕ) → IndexSaid
-no_index name at explanation = said name (Offset at) explanation INDEX_STATUS
+no_index name at explanation = said name (Offset at) explanation index_status
 
 abbrev pub wire_said : WireFault → IndexSaid
 wire_said (wire.Truncated at) =
@@ -58,15 +58,15 @@ wire_said (wire.Utf8 at) =
 wire_said (wire.BadRange at) =
     no_index (wire_name (wire.BadRange at)) at
     (codes "\nthis file is no SCIP index: a range has three or four numbers, none of them negative")
-wire_said wire.Memory = nowhere (wire_name wire.Memory) [] MEMORY_STATUS
+wire_said wire.Memory = nowhere (wire_name wire.Memory) [] memory_status
 
 -- ---- of them all
 
 abbrev pub said_of : IndexFault → IndexSaid
 said_of Unreadable =
-    said (codes "Unreadable") WholeFile (codes "\nit isn't there, or is a folder, or can't be read") STREAM_STATUS
+    said (codes "Unreadable") WholeFile (codes "\nit isn't there, or is a folder, or can't be read") stream_status
 said_of (Wire fault) = wire_said fault
-said_of Memory = nowhere (codes "Memory") [] MEMORY_STATUS
+said_of Memory = nowhere (codes "Memory") [] memory_status
 
 -- a line that says where it is in the file with this path
 abbrev pub line_with : (path : List ℕ) → IndexPlace → (name : List ℕ) → List ℕ

@@ -4,7 +4,7 @@ use Rattle.std.specs.Prelude.{◌≡◌, Bool, ℕ, List, Option, codes}
 use Rattle.scip_wire.specs.declared.write_fault.WriteFault.{WriteFault}
 use Rattle.scip_wire.specs.declared.write_fault.WriteFault.TheVariants as writing
 use Rattle.protoscip.specs.Lines.{plain_line}
-use Rattle.protoscip.specs.declared.statuses.TheConstants.{STREAM_STATUS}
+use Rattle.protoscip.specs.Statuses.{stream_status}
 use Rattle.programs.specs.FaultTexts.{explained}
 use Rattle.programs.specs.FilesFaults.{IsTold as IsFilesTold, status_of as status_of_files}
 use Rattle.programs.specs.declared.files_fault.FilesFault.TheVariants.{TooLarge}
@@ -27,7 +27,7 @@ IsTold blames explain paths Write text = text ≡ write_told explain
 -- that of the files, and 3 if writing fails
 abbrev pub status_of : JoinStop → ℕ
 status_of (NoJoin fault) = status_of_files fault
-status_of Write = STREAM_STATUS
+status_of Write = stream_status
 
 abbrev pub stop_of_writing : WriteFault → JoinStop
 stop_of_writing writing.TooLarge = NoJoin TooLarge

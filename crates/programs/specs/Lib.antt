@@ -1,4 +1,5 @@
 -- what is printed and said, and the exit status
+pub mod Statuses
 pub mod FaultTexts
 pub mod Messages
 pub mod Printing
@@ -12,6 +13,11 @@ pub mod IndexFiles
 pub mod QueryFaults
 pub mod Queries
 pub mod Answering
+-- what asks in one line
+pub mod AskedOnce
+-- what is told of an index as a whole
+pub mod Surveying
+pub mod SurveyViews
 -- `snapshot`
 pub mod ShowFaults
 pub mod Snapshotting

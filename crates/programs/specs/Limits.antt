@@ -14,9 +14,8 @@ use Rattle.command_line.specs.declared.options.limits.Limits.{Limits}
 use Rattle.protoscip.specs.Lines.{plain_line}
 use Rattle.protoscip.specs.declared.fault.Fault.{Fault}
 use Rattle.protoscip.specs.ToldLines.{is_skipped_source, left_out}
-use Rattle.protoscip.specs.declared.statuses.TheConstants.{SOURCES_STATUS}
+use Rattle.protoscip.specs.Statuses.{sources_status}
 use Rattle.protoscip.specs.Unread.{PathUnread}
-use Rattle.programs.specs.declared.limits.TheConstants.{NO_LIMITS}
 use Rattle.programs.specs.declared.limits.LimitFault.{LimitFault}
 use Rattle.programs.specs.declared.limits.LimitFault.TheVariants.{TooManySkipped, TooFewSources}
 use Rattle.programs.specs.Messages.{SaysOfSuccess, Tells}
@@ -52,8 +51,9 @@ abbrev pub IsBrokenBy : Limits → List TreeFile → (unread : List PathUnread) 
 IsBrokenBy limits tree unread (Ok told) broken = Breaks limits tree unread told broken
 IsBrokenBy limits tree unread (Err fault) broken = broken ≡ None
 
+-- `shell` has none
 abbrev pub no_limits : Limits
-no_limits = NO_LIMITS
+no_limits = record { max_skipped = None; min_sources = None }
 
 -- ---- what is said of it
 
@@ -85,7 +85,7 @@ told explain fault =
 
 -- the exit status
 abbrev pub limit_status : ℕ
-limit_status = SOURCES_STATUS
+limit_status = sources_status
 
 -- the end of a run whose index lacks this and breaks a limit: what it lacks is said as after a success, and then the
 -- limit; `dialect` is the one with which the former is explained

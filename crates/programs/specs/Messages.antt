@@ -2,7 +2,7 @@
 use Rattle.std.specs.Prelude.{◌≡◌, ◌⊎◌, ℕ, List, Option, Some, None, codes}
 use Rattle.streams.specs.Writers.{IsSaid, IsUntouched, Writer}
 use Rattle.protoscip.specs.Lines.{plain_line}
-use Rattle.protoscip.specs.declared.statuses.TheConstants.{MEMORY_STATUS}
+use Rattle.protoscip.specs.Statuses as statuses
 
 -- the stream of messages around a call, and the exit status: this line is said, with its end, or cut off by a write
 -- that fails; and the status is the one that is due
@@ -15,7 +15,7 @@ abbrev pub memory_line : List ℕ
 memory_line = plain_line (codes "Memory")
 
 abbrev pub memory_status : ℕ
-memory_status = MEMORY_STATUS
+memory_status = statuses.memory_status
 
 -- if a program stops, the line that is due is said, with the status that is due; or, if there is no memory for it,
 -- the line and the status of Memory

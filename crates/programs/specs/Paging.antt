@@ -14,7 +14,7 @@ use Rattle.scip_site.specs.Making.{MakesSite}
 use Rattle.scip_site.specs.declared.site_fault.SiteFault.{SiteFault}
 use Rattle.scip_site.specs.declared.site_fault.SiteFault.TheVariants.{Show}
 use Rattle.protoscip.specs.Lines.{path_line}
-use Rattle.protoscip.specs.declared.statuses.TheConstants.{STREAM_STATUS}
+use Rattle.protoscip.specs.Statuses.{stream_status}
 use Rattle.command_line.specs.declared.options.PagesOptions.{PagesOptions}
 use Rattle.programs.specs.declared.files_fault.FilesFault.{FilesFault}
 use Rattle.programs.specs.declared.files_fault.ToldBy.TheVariants.{Other}
@@ -130,7 +130,7 @@ pub data ReadsAndMakes {P F M : Type 0} (gives blames : List ℕ → Option (Lis
 pub data RunsPages {P F M : Type 0} (frees : List ℕ → Bool → Type 0) (gives blames : List ℕ → Option (List ℕ) → Type 0)
     (options : PagesOptions) (places : FolderPlaces P F) (messages : Writer M) (status : ℕ) : Type 0 where
   taken : frees (string_bytes options.out) false → AreLeft places
-      → Tells (taken_told options.explain (string_bytes options.out)) STREAM_STATUS messages status
+      → Tells (taken_told options.explain (string_bytes options.out)) stream_status messages status
       → RunsPages frees gives blames options places messages status
   unasked : AreLeft places
       → Says memory_line memory_status messages status

@@ -5,8 +5,8 @@ use Rattle.source_files.specs.declared.cause.Cause.{Cause}
 use Rattle.source_files.specs.declared.cause.Cause.TheVariants.{ClosedPipe}
 use Rattle.programs.specs.Messages.{IsSilent, Tells}
 use Rattle.protoscip.specs.Lines.{plain_line}
-use Rattle.programs.specs.declared.statuses.TheConstants.{COMMAND_LINE_STATUS}
-use Rattle.protoscip.specs.declared.statuses.TheConstants.{STREAM_STATUS}
+use Rattle.programs.specs.Statuses.{command_line_status}
+use Rattle.protoscip.specs.Statuses.{stream_status}
 
 -- whether a write failed because the pipe that it goes to is closed by its reader, by why it failed
 abbrev pub is_closed : Option Cause → Bool
@@ -26,12 +26,12 @@ abbrev pub Prints : {W M : Type 0} → (cause : W → Option Cause) → (text : 
 Prints cause text out messages status =
     (IsWritten out text × IsSilent messages status)
     ⊎ ((count : ℕ) × IsCutOff out text count
-    × EndsCut (is_closed (cause out.after)) (Tells (plain_line (codes "Write")) STREAM_STATUS messages status) messages
+    × EndsCut (is_closed (cause out.after)) (Tells (plain_line (codes "Write")) stream_status messages status) messages
     status)
 
 -- a text says why a command line is refused: all of it is written, or a write fails after a first part of it
 abbrev pub Refuses : {M : Type 0} → (text : List ℕ) → Writer M → (status : ℕ) → Type 0
 Refuses text messages status =
-    (status ≡ COMMAND_LINE_STATUS)
+    (status ≡ command_line_status)
     × (IsWritten messages text
     ⊎ ((count : ℕ) × IsCutOff messages text count))

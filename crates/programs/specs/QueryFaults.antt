@@ -5,7 +5,7 @@ use Rattle.scip_query.specs.AnswerFaults.{name_of as answer_name}
 use Rattle.scip_query.specs.declared.answer_fault.AnswerFault.{AnswerFault}
 use Rattle.scip_query.specs.declared.answer_fault.AnswerFault.TheVariants as answer
 use Rattle.protoscip.specs.Lines.{plain_line}
-use Rattle.protoscip.specs.declared.statuses.TheConstants.{MEMORY_STATUS, STREAM_STATUS}
+use Rattle.protoscip.specs.Statuses.{memory_status, stream_status}
 use Rattle.programs.specs.FaultTexts.{explained}
 use Rattle.programs.specs.FilesFaults.{IsTold as IsFilesTold, status_of as status_of_files}
 use Rattle.programs.specs.declared.files_fault.ToldBy.TheVariants.{Other}
@@ -22,9 +22,9 @@ answer_explanation answer.Memory = []
 
 -- 3 if a stream fails, 4 if memory runs out
 abbrev pub answer_status : AnswerFault → ℕ
-answer_status answer.Read = STREAM_STATUS
-answer_status (answer.Write count) = STREAM_STATUS
-answer_status answer.Memory = MEMORY_STATUS
+answer_status answer.Read = stream_status
+answer_status (answer.Write count) = stream_status
+answer_status answer.Memory = memory_status
 
 -- the line, explained if that is asked for
 abbrev pub answer_told : (explain : Bool) → AnswerFault → List ℕ

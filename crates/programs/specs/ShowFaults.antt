@@ -5,12 +5,12 @@ use Rattle.scip_site.specs.ShowFaults.{name_of}
 use Rattle.scip_site.specs.declared.show_fault.ShowFault.{ShowFault}
 use Rattle.scip_site.specs.declared.show_fault.ShowFault.TheVariants.{Write, Memory}
 use Rattle.protoscip.specs.Lines.{plain_line}
-use Rattle.protoscip.specs.declared.statuses.TheConstants.{MEMORY_STATUS, STREAM_STATUS}
+use Rattle.protoscip.specs.Statuses.{memory_status, stream_status}
 use Rattle.programs.specs.FaultTexts.{FaultText, explained, said}
 
 abbrev pub text_of : ShowFault → FaultText
-text_of Write = said (name_of Write) (codes "\nonly a first part could be written") STREAM_STATUS
-text_of Memory = said (name_of Memory) [] MEMORY_STATUS
+text_of Write = said (name_of Write) (codes "\nonly a first part could be written") stream_status
+text_of Memory = said (name_of Memory) [] memory_status
 
 -- its line, explained if that is asked for
 abbrev pub told : (explain : Bool) → ShowFault → List ℕ

@@ -17,7 +17,7 @@ use Rattle.command_line.specs.declared.options.sources.SourceList.{SourceList}
 use Rattle.command_line.specs.declared.request.Request.{Request}
 use Rattle.command_line.specs.declared.request.Request.TheVariants as request
 use Rattle.protoscip.specs.Lines.{path_line}
-use Rattle.protoscip.specs.declared.statuses.TheConstants.{MEMORY_STATUS, SOURCES_STATUS, STREAM_STATUS}
+use Rattle.protoscip.specs.Statuses.{memory_status, sources_status, stream_status}
 use Rattle.programs.specs.Causes.{IsReasoned}
 use Rattle.programs.specs.Messages.{TellsOne}
 use Rattle.programs.specs.declared.source_lists.NoList.{NoList}
@@ -42,18 +42,18 @@ said name line sentence status = record { name = name; line = line; sentence = s
 
 abbrev pub said_of : NoList → Said
 said_of Unreadable =
-    said (codes "Unreadable") None (codes "this list of sources isn't there, or can't be read") STREAM_STATUS
+    said (codes "Unreadable") None (codes "this list of sources isn't there, or can't be read") stream_status
 said_of (Refused refused.TooLong) =
-    said (codes "TooLong") None (codes "a list of sources has at most 67108864 bytes") SOURCES_STATUS
+    said (codes "TooLong") None (codes "a list of sources has at most 67108864 bytes") sources_status
 said_of (Refused (refused.NotUtf8 line)) =
-    said (codes "NotUtf8") (Some line) (codes "this line isn't UTF-8") SOURCES_STATUS
+    said (codes "NotUtf8") (Some line) (codes "this line isn't UTF-8") sources_status
 said_of (Refused (refused.BadPath line)) =
     said (codes "BadPath") (Some line)
     (codes "a listed path is like `a/b.proto`: no empty name, `.`, `..` or control character; at most 4096 bytes")
-    SOURCES_STATUS
+    sources_status
 said_of (Refused refused.TooMany) =
-    said (codes "TooMany") None (codes "a list names at most 65536 paths") SOURCES_STATUS
-said_of (Refused refused.Memory) = said (codes "Memory") None (codes "memory ran out") MEMORY_STATUS
+    said (codes "TooMany") None (codes "a list names at most 65536 paths") sources_status
+said_of (Refused refused.Memory) = said (codes "Memory") None (codes "memory ran out") memory_status
 
 -- a line with a path and a name, and a sentence behind it, if that is asked for
 abbrev pub line_told : (explain : Bool) → (path name sentence : List ℕ) → List ℕ

@@ -6,10 +6,10 @@ use Rattle.source_files.specs.declared.load_fault.LoadFault.TheVariants.{Unreada
 use Rattle.programs.specs.declared.start_fault.StartFault.{StartFault}
 use Rattle.programs.specs.declared.start_fault.StartFault.TheVariants.{BadPart, BadFolder, Load, IsSource}
 use Rattle.programs.specs.declared.start_fault.StartFault.TheVariants.{ReportIsSource, ReportIsOut, Unlisted}
-use Rattle.programs.specs.declared.statuses.TheConstants.{COMMAND_LINE_STATUS}
+use Rattle.programs.specs.Statuses.{command_line_status}
 use Rattle.protoscip.specs.Lines.{path_line, plain_line}
 use Rattle.protoscip.specs.Unread.{bad_path_sentence}
-use Rattle.protoscip.specs.declared.statuses.TheConstants.{MEMORY_STATUS, SOURCES_STATUS, STREAM_STATUS}
+use Rattle.protoscip.specs.Statuses.{memory_status, sources_status, stream_status}
 
 -- the name in its line, and the path, if it names one; a sentence about it; and the exit status
 pub record StartSaid : Type 0 where
@@ -24,31 +24,31 @@ said name path sentence status = record { name = name; path = path; sentence = s
 -- the package of a folder is refused as that of the run is
 abbrev pub said_of : StartFault → StartSaid
 said_of BadPart =
-    said (codes "BadPart") None (codes "a part of the package begins with a space or is `.`") COMMAND_LINE_STATUS
+    said (codes "BadPart") None (codes "a part of the package begins with a space or is `.`") command_line_status
 said_of (BadFolder path) =
     said (codes "BadPart") (Some (string_bytes path))
-    (codes "a part of the package of this folder begins with a space or is `.`") COMMAND_LINE_STATUS
+    (codes "a part of the package of this folder begins with a space or is `.`") command_line_status
 said_of (Unlisted place path) =
     said (codes "Unreadable") (Some (string_bytes place))
-    (codes "the source that this line names isn't there, or can't be read") STREAM_STATUS
+    (codes "the source that this line names isn't there, or can't be read") stream_status
 said_of (Load (Unreadable path)) =
     said (load_name (Unreadable path)) (Some (string_bytes path))
-    (codes "it isn't there, or can't be read, or an entry's name isn't UTF-8") STREAM_STATUS
+    (codes "it isn't there, or can't be read, or an entry's name isn't UTF-8") stream_status
 said_of (Load TooMany) =
-    said (load_name TooMany) None (codes "the sources and the included files are at most 65536") SOURCES_STATUS
+    said (load_name TooMany) None (codes "the sources and the included files are at most 65536") sources_status
 said_of (Load (BadPath path)) =
-    said (load_name (BadPath path)) (Some (string_bytes path)) bad_path_sentence SOURCES_STATUS
+    said (load_name (BadPath path)) (Some (string_bytes path)) bad_path_sentence sources_status
 said_of (Load (SamePath path)) =
-    said (load_name (SamePath path)) (Some (string_bytes path)) (codes "two sources have this path") SOURCES_STATUS
-said_of (Load Memory) = said (load_name Memory) None (codes "memory ran out") MEMORY_STATUS
+    said (load_name (SamePath path)) (Some (string_bytes path)) (codes "two sources have this path") sources_status
+said_of (Load Memory) = said (load_name Memory) None (codes "memory ran out") memory_status
 said_of (IsSource path) =
     said (codes "IsSource") (Some (string_bytes path))
-    (codes "it is a source that was read, or a link to one; the index would replace it") STREAM_STATUS
+    (codes "it is a source that was read, or a link to one; the index would replace it") stream_status
 said_of (ReportIsSource path) =
     said (codes "IsSource") (Some (string_bytes path))
-    (codes "it is a source that was read, or a link to one; the report would replace it") STREAM_STATUS
+    (codes "it is a source that was read, or a link to one; the report would replace it") stream_status
 said_of (ReportIsOut path) =
-    said (codes "IsOut") (Some (string_bytes path)) (codes "the index goes there, so its report can't") STREAM_STATUS
+    said (codes "IsOut") (Some (string_bytes path)) (codes "the index goes there, so its report can't") stream_status
 
 abbrev pub name_of : StartFault → List ℕ
 name_of fault = (said_of fault).name

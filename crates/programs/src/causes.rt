@@ -33,6 +33,7 @@ fn is_explained(asked: &Result<Request, AllocError>) -> bool
         Ok(request) => match request {
             Request::Dump(options) => options.explain,
             Request::Query(options) => options.explain,
+            Request::Ask(options) => options.explain,
             Request::Snapshot(options) => options.explain,
             Request::Pages(options) => options.explain,
             Request::Join(options) => options.explain,
@@ -59,6 +60,7 @@ fn made_path(asked: &Result<Request, AllocError>) -> &str
             },
             Request::Dump(_)
             | Request::Query(_)
+            | Request::Ask(_)
             | Request::Shell(_)
             | Request::Print(_)
             | Request::Refuse(_) => "",

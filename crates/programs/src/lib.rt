@@ -22,6 +22,10 @@ mod querying;
 // How commands are taken.
 mod manners;
 
+// What asks in one line.
+mod asking;
+mod surveying;
+
 // `snapshot`: the sources of an index, with what the index says about them, are printed, or go to files.
 mod show_faults;
 mod snapshotting;
@@ -84,6 +88,6 @@ pub use manners::{Prompting, manner_of, takes_commands};
 pub use messages::report;
 pub use places::Places;
 pub use progress::{LineWiped, Progress};
-pub use running::{links_followed, out_path, report_path, run};
+pub use running::{is_synced, links_followed, out_path, report_path, run};
 pub use source_lists::with_list;
 pub use well_known::{variable, with_well_known};

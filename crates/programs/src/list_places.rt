@@ -2,7 +2,7 @@
 
 ghost use Rattle.std.specs.Prelude.{◌≡◌, ℕ, Bool, List, Some, IfErr, IfOk, MatchOption, codes, string_bytes};
 ghost use Rattle.streams.specs.Writers.{IsUntouched, writer};
-ghost use Rattle.protoscip.specs.declared.statuses.TheConstants.{STREAM_STATUS};
+ghost use Rattle.protoscip.specs.Statuses.{stream_status};
 ghost use Rattle.programs.specs.ListPlaces.{
   IsFileThere,
   IsListThere,
@@ -111,7 +111,7 @@ fn replaced_in<'a, P: OutPlace, Q: OutPlace>(
 /// Says what would replace the list, and gives the exit status.
 fn say_replaced<M: Sink>(alloc: Global, replaced: Replaced<'_>, messages: &mut M) -> u8
     ensures { Tells (line_told replaced.entry.explain replaced.entry.path.now (codes "IsList")
-        replaced.entry.sentence.now) STREAM_STATUS (writer M.Sink messages) result }
+        replaced.entry.sentence.now) stream_status (writer M.Sink messages) result }
 {
     let said = ListSaid {
         name: "IsList",
@@ -135,7 +135,7 @@ pub fn see_list<P: OutPlace, Q: OutPlace, M: Sink>(
         × IsUntouched (writer M.Sink messages)) }
     ensures replaced { IfErr result (λ status. (path : List ℕ) × (sentence : List ℕ) × (explain : Bool)
         × ReplacesList (P.same places.now.file) (Q.same places.now.report) asked.now path sentence explain
-        × Tells (line_told explain path (codes "IsList") sentence) STREAM_STATUS (writer M.Sink messages) status) }
+        × Tells (line_told explain path (codes "IsList") sentence) stream_status (writer M.Sink messages) status) }
 {
     match replaced_in(asked, places) {
         Some(replaced) => Err(say_replaced(alloc, replaced, messages)),

@@ -1,7 +1,7 @@
 //! How commands are asked for, and taken.
 
 ghost use Rattle.std.specs.Prelude.{◌≡◌};
-ghost use Rattle.programs.specs.Manners.{knows_more, manner_of, takes_commands};
+ghost use Rattle.programs.specs.Manners.{answers_json, knows_more, manner_of, takes_commands};
 
 use command_line::Request;
 use scip_query::Manner;
@@ -33,12 +33,24 @@ pub fn takes_commands(asked: &Result<Request, AllocError>) -> bool
     }
 }
 
-/// How commands are taken and answered: on a terminal all are known, and it is said in sentences why one isn't
-/// answered.
+/// Whether what is asked for answers in JSON.
+fn answers_json(asked: &Result<Request, AllocError>) -> bool
+    ensures { result ≡ answers_json asked.now }
+{
+    match asked {
+        Ok(Request::Query(options)) => options.json,
+        _ => false,
+    }
+}
+
+/// How commands are taken and answered: in JSON if that is asked for; else on a terminal all are known, and it is said
+/// in sentences why one isn't answered.
 pub fn manner_of(asked: &Result<Request, AllocError>, is_terminal: bool) -> Manner
     ensures { result ≡ manner_of asked.now is_terminal }
 {
-    if is_terminal {
+    if answers_json(asked) {
+        Manner::Json
+    } else if is_terminal {
         Manner::Spoken
     } else if knows_more(asked) {
         Manner::More

@@ -20,18 +20,18 @@ pub(crate) fn is_closed<W: Caused>(out: &W) -> bool
     }
 }
 
-/// Prints a text, and gives the exit status. If a write fails, it says so, unless the pipe is closed by its reader,
+/// Prints bytes, and gives the exit status. If a write fails, it says so, unless the pipe is closed by its reader,
 /// who wants no more.
-pub(crate) fn print<W: Sink + Caused, M: Sink>(
+pub(crate) fn print_bytes<W: Sink + Caused, M: Sink>(
     alloc: Global,
-    text: &str,
+    bytes: &[u8],
     out: &mut W,
     messages: &mut M,
 ) -> u8
-    ensures { Prints W.cause text.now (writer W.Sink out)
+    ensures { Prints W.cause bytes.now (writer W.Sink out)
         (writer M.Sink messages) result }
 {
-    match write_all(out, text.as_bytes()) {
+    match write_all(out, bytes) {
         Ok(()) => 0,
         Err(_) => {
             if is_closed(out) {
@@ -41,4 +41,17 @@ pub(crate) fn print<W: Sink + Caused, M: Sink>(
             report(line, STREAM_STATUS, messages)
         }
     }
+}
+
+/// Prints a text in the same way.
+pub(crate) fn print<W: Sink + Caused, M: Sink>(
+    alloc: Global,
+    text: &str,
+    out: &mut W,
+    messages: &mut M,
+) -> u8
+    ensures { Prints W.cause text.now (writer W.Sink out)
+        (writer M.Sink messages) result }
+{
+    print_bytes(alloc, text.as_bytes(), out, messages)
 }

@@ -1,10 +1,11 @@
 //! What the program does with its files and streams, and the exit status that it ends with.
 
-ghost use Rattle.std.specs.Prelude.{◌≡◌, [], None, Result, IfSome, IfOk, IfErr, map, string_bytes};
+ghost use Rattle.std.specs.Prelude.{◌≡◌, [], None, Result, IfSome, IfOk, IfErr, false, map, string_bytes};
 ghost use Rattle.streams.specs.Readers.{IsReadBriefly, reader};
 ghost use Rattle.streams.specs.Writers.{writer};
 ghost use Rattle.source_files.specs.Makers.{making};
 ghost use Rattle.command_line.specs.Requests.{
+  ask_options,
   dump_options,
   explains,
   index_paths,
@@ -22,7 +23,8 @@ ghost use Rattle.protoscip.specs.Dump.{IsDumped, LeavesReader};
 ghost use Rattle.protoscip.specs.Explanations.{explain_in};
 ghost use Rattle.programs.specs.declared.query_fault.QueryFault.{QueryFault};
 ghost use Rattle.programs.specs.Answering.{Answers};
-ghost use Rattle.programs.specs.Asked.{report_path};
+ghost use Rattle.programs.specs.Asked.{is_synced, report_path};
+ghost use Rattle.programs.specs.AskedOnce.{RunsAsked};
 ghost use Rattle.programs.specs.Dumping.{EndsDump};
 ghost use Rattle.programs.specs.Indexing.{Indexed, WritesNavigable};
 ghost use Rattle.programs.specs.Joining.{RunsJoin};
@@ -36,6 +38,7 @@ ghost use Rattle.programs.specs.Searches.{blamed_by, follows, found_by, links_fo
 ghost use Rattle.programs.specs.Serving.{AnswersNavigable, Served};
 ghost use Rattle.programs.specs.Snapshotting.{RunsSnapshot};
 
+use crate::asking::ask;
 use crate::dumping::dump_source;
 use crate::host::Host;
 use crate::indexing::index_searched;
@@ -143,6 +146,18 @@ pub fn links_followed(asked: &Result<Request, AllocError>) -> bool
     }
 }
 
+/// Whether the disk is to have the file and the report before the run ends.
+pub fn is_synced(asked: &Result<Request, AllocError>) -> bool
+    ensures asked { IfOk asked.now (λ request. result ≡ is_synced request) }
+    ensures unread { IfErr asked.now (λ _. result ≡ false) }
+{
+    match asked {
+        Ok(Request::Index(given)) => given.sync,
+        Ok(Request::Join(options)) => options.sync,
+        _ => false,
+    }
+}
+
 /// Does what was asked for, and gives the exit status. An index goes to the first of the places, which makes the files
 /// of snapshots and the folders of pages too; a report goes to the other; everything else goes to `out`. Where memory
 /// ran out while the command line was read, it says so.
@@ -181,6 +196,11 @@ where
         × Queried host.now.manner (F.gives host.now.files.now) paths (reader I.Feed input) (writer W.Sink out) done
         × Answers (F.blames host.now.files.now [] []) (explains request) paths done (writer M.Sink messages) result)
         × (places.new ≡ places.old))) }
+    // What asks in one line.
+    ensures asked_once { IfOk asked.now (λ request. IfSome (ask_options request) (λ options.
+        RunsAsked (F.gives host.now.files.now) (F.blames host.now.files.now [] []) W.cause options (writer W.Sink out)
+        (writer M.Sink messages) result
+        × (input.new ≡ input.old) × (places.new ≡ places.old))) }
     // What `index` does.
     ensures indexed { IfOk asked.now (λ request. IfSome (index_request request) (λ given.
         Indexed (searched_by given.options (F.lists host.now.files.now)) (F.gives host.now.files.now)
@@ -236,6 +256,7 @@ where
                 let (paths, explain) = (options.indexes.as_slice(), options.explain);
                 answer(host, paths, explain, input, out, messages)
             }
+            Request::Ask(options) => ask(host, options, out, messages),
             Request::Snapshot(options) => {
                 snapshot(host, options, out, &mut places.file, messages)
             }

@@ -6,7 +6,7 @@ ghost use Rattle.programs.specs.SiteFaults.{status_of, text_of, told};
 use crate::fault_texts::{FaultText, said, told};
 use crate::show_faults;
 use protoscip::STREAM_STATUS;
-use scip_site::SiteFault;
+use scip_site::{ShowFault, SiteFault};
 use std::alloc::{AllocError, Global};
 
 /// What is said of it.
@@ -16,7 +16,11 @@ fn text_of(fault: SiteFault) -> FaultText
     ensures status { result.status ≡ (text_of fault).status }
 {
     match fault {
-        SiteFault::Show(fault) => show_faults::text_of(fault),
+        SiteFault::Show(ShowFault::Write) => {
+            let sentence = "\nnot all pages could be written, so none is left";
+            said(fault.name(), sentence, STREAM_STATUS)
+        }
+        SiteFault::Show(ShowFault::Memory) => show_faults::text_of(ShowFault::Memory),
         SiteFault::NothingThere => {
             let explanation = "\nno document has its source below ROOT";
             said(fault.name(), explanation, STREAM_STATUS)

@@ -64,7 +64,7 @@ to: no space left on device\n",
         status: 3,
         said: "protoscip: no.txt: Unreadable
 protoscip: Write
-only a first part could be written
+not all pages could be written, so none is left
 to: no space left on device\n",
         ..SILENT
     },

@@ -25,7 +25,7 @@ static ROWS: [Row; 11] = [
         status: 3,
         said: "protoscip: no.txt: Unreadable
 protoscip: Write
-only a first part could be written
+not all pages could be written, so none is left
 full/new: permission denied\n",
         ..SILENT
     },

@@ -11,7 +11,7 @@ use Rattle.protoscip.specs.declared.fault.Fault.{Fault}
 use Rattle.protoscip.specs.declared.fault.Fault.TheVariants.{Spawn, Memory, Unread, Lex, Syntax, Duplicate}
 use Rattle.protoscip.specs.declared.fault.Fault.TheVariants.{MissingImport, Unresolved, Ambiguous, OptionGap, Uncertain}
 use Rattle.protoscip.specs.declared.fault.Fault.TheVariants.{TooLarge, Write, Read, Answer}
-use Rattle.protoscip.specs.declared.statuses.TheConstants.{MEMORY_STATUS, SOURCES_STATUS, STREAM_STATUS}
+use Rattle.protoscip.specs.Statuses.{memory_status, sources_status, stream_status}
 
 -- the sentence is empty for lack of memory
 pub record FaultText : Type 0 where
@@ -24,11 +24,11 @@ said name sentence status = record { name = name; sentence = sentence; status = 
 
 -- a source is refused
 abbrev pub refused : (name sentence : List ℕ) → FaultText
-refused name sentence = said name sentence SOURCES_STATUS
+refused name sentence = said name sentence sources_status
 
 -- memory ran out
 abbrev pub lacking : (name : List ℕ) → FaultText
-lacking name = said name [] MEMORY_STATUS
+lacking name = said name [] memory_status
 
 -- ---- of a fault of a text or of its lexing
 
@@ -76,7 +76,7 @@ syntax_sentence fault = (syntax_text fault).sentence
 
 -- the sources are refused; reading, writing or the index's size fails; or memory or a thread is lacking
 abbrev pub text_of : Fault → FaultText
-text_of Spawn = said (codes "Spawn") (codes "no thread could be started; `--workers 1` needs none") MEMORY_STATUS
+text_of Spawn = said (codes "Spawn") (codes "no thread could be started; `--workers 1` needs none") memory_status
 text_of Memory = lacking (codes "Memory")
 text_of (Unread number) = refused (codes "Unreadable") (codes "it can't be read")
 text_of (Lex number fault) = lex_text fault
@@ -91,12 +91,12 @@ text_of (OptionGap place) = refused (codes "Option") (codes "nothing that may st
 text_of (Uncertain place behind) =
     refused (codes "Uncertain")
     (codes "a file that this source sees can't be read: it may declare this name nearer")
-text_of TooLarge = said (codes "TooLarge") (codes "an index has at most 2147483647 bytes") STREAM_STATUS
+text_of TooLarge = said (codes "TooLarge") (codes "an index has at most 2147483647 bytes") stream_status
 text_of (Write count) =
-    said (codes "Write") (codes "the output can't be made, or its disk is full, or nobody reads it") STREAM_STATUS
-text_of Read = said (codes "Read") (codes "standard input couldn't be read to its end") STREAM_STATUS
+    said (codes "Write") (codes "the output can't be made, or its disk is full, or nobody reads it") stream_status
+text_of Read = said (codes "Read") (codes "standard input couldn't be read to its end") stream_status
 text_of (Answer count) =
-    said (codes "Answer") (codes "the answers can't be written: the disk is full, or nobody reads them") STREAM_STATUS
+    said (codes "Answer") (codes "the answers can't be written: the disk is full, or nobody reads them") stream_status
 
 abbrev pub name_of : Fault → List ℕ
 name_of fault = (text_of fault).name

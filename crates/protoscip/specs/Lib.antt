@@ -2,6 +2,7 @@
 pub mod Output
 -- why a run stops, the line that says so, and the status that a program then ends with
 pub mod Faults
+pub mod Statuses
 pub mod FaultTexts
 pub mod Lines
 pub mod FaultLines

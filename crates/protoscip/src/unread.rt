@@ -23,7 +23,7 @@ use std::marker::Model;
 /// Contracts see the bytes of what is shown, the path's own, and whether it is bad.
 #[derive(Debug, Drop)]
 pub struct UnreadPath {
-    /// What is shown of the path: bytes that aren't UTF-8 are in the form `\xe9`.
+    /// What is shown of the path: bytes that aren't UTF-8 and control characters are in the form `\xe9`.
     pub shown: String,
     /// The path.
     pub bytes: Vec<u8>,

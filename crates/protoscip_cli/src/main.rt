@@ -3,8 +3,8 @@
 
 use command_line::{Request, request_of_process};
 use programs::{
-    Host, Places, Prompting, explain_failure, links_followed, manner_of, out_path, report_path,
-    run, see_list, takes_commands, variable, with_list, with_well_known,
+    Host, Places, Prompting, explain_failure, is_synced, links_followed, manner_of, out_path,
+    report_path, run, see_list, takes_commands, variable, with_list, with_well_known,
 };
 use source_files::{OutFile, SystemFiles, SystemStream, WithWellKnown};
 use std::alloc::AllocError;
@@ -93,7 +93,7 @@ fn main(rt: HostRuntime) -> ExitCode {
         Ok(asked) => asked,
         Err(status) => return ExitCode::from(status),
     };
-    let follows = links_followed(&asked);
+    let (follows, syncs) = (links_followed(&asked), is_synced(&asked));
     let systems = Systems {
         files: SystemFiles::following(&rt, follows),
         linked: SystemFiles::following(&rt, true),
@@ -101,8 +101,8 @@ fn main(rt: HostRuntime) -> ExitCode {
     };
     let files = systems.with_well_known();
     let mut places = Places {
-        file: OutFile::following(&rt, out_path(&asked), follows),
-        report: OutFile::following(&rt, report_path(&asked), follows),
+        file: OutFile::following(&rt, out_path(&asked), follows).syncing(syncs),
+        report: OutFile::following(&rt, report_path(&asked), follows).syncing(syncs),
     };
     let mut out = SystemStream::new(rt.stdout());
     let host = Host {

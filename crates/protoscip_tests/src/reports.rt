@@ -59,7 +59,21 @@ const LOG: &str = "{\"$schema\":\"https://json.schemastore.org/sarif-2.1.0.json\
      \"physicalLocation\":{\"artifactLocation\":{\"uri\":\"c%20d%E9.proto\"}}}],\
      \"ruleId\":\"Uncertain\"}],\
      \"tool\":{\"driver\":{\"name\":\"protoscip\",\
-     \"rules\":[{\"id\":\"Duplicate\"},{\"id\":\"MissingImport\"},{\"id\":\"TooLarge\"},{\"id\":\"Uncertain\"}],\
+     \"rules\":[\
+     {\"fullDescription\":{\"text\":\"Two declarations have one full name. \
+     With --duplicates keep each is kept for the files that see it.\"},\
+     \"help\":{\"text\":\"docs/USAGE.md of protoscip has an example of each fault, and what --explain says of it.\"},\
+     \"id\":\"Duplicate\",\"shortDescription\":{\"text\":\"this full name is given already\"}},\
+     {\"fullDescription\":{\"text\":\"An import names a file that is not below ROOT, \
+     and in no folder that --include names.\"},\
+     \"help\":{\"text\":\"docs/USAGE.md of protoscip has an example of each fault, and what --explain says of it.\"},\
+     \"id\":\"MissingImport\",\"shortDescription\":{\"text\":\"no source\"}},\
+     {\"fullDescription\":{\"text\":\"A run stops for it, and no index is made.\"},\
+     \"help\":{\"text\":\"docs/USAGE.md of protoscip has an example of each fault, and what --explain says of it.\"},\
+     \"id\":\"TooLarge\",\"shortDescription\":{\"text\":\"too many\"}},\
+     {\"fullDescription\":{\"text\":\"A name may mean another declaration, of a file that cannot be read.\"},\
+     \"help\":{\"text\":\"docs/USAGE.md of protoscip has an example of each fault, and what --explain says of it.\"},\
+     \"id\":\"Uncertain\",\"shortDescription\":{\"text\":\"it may be another type\"}}],\
      \"version\":\"1\"}}}],\"version\":\"2.1.0\"}\n";
 
 /// A place of the source, and its end, if that is known.

@@ -1,5 +1,5 @@
 -- `--sources`: the file that lists the sources.
-use Rattle.std.specs.Prelude.{◌≡◌, ⊤, Bool, true, false, ◌&&◌, List, [], Option, Some, None, codes, string_bytes}
+use Rattle.std.specs.Prelude.{◌≡◌, ⊤, Bool, false, ◌&&◌, List, [], Option, Some, None, codes, string_bytes}
 use Rattle.std.specs.Option.{option_map_or}
 use Rattle.std.specs.Str.{bytes_eq}
 use Rattle.clap.specs.Words.{Row, Rule, Text, first_of}

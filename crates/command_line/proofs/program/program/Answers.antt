@@ -2,7 +2,7 @@ use Rattle.std.proofs.Common.{◌∙◌, ap}
 use Rattle.std.proofs.lemmas.Result.{IfOk-weaker}
 use Rattle.clap.specs.Words.{App, with_subcommand}
 use Rattle.command_line.specs.Program.{dump_line, index_line, join_line, pages_line, query_line, shell_line}
-use Rattle.command_line.specs.Program.{snapshot_line}
+use Rattle.command_line.specs.Program.{snapshot_line, with_asking, with_surveying}
 use Rattle.command_line.proofs.program.program.Goals as goal
 
 pub returns : goal.returns
@@ -11,8 +11,10 @@ returns c =
     let dump = dump_line lists in
     let index = index_line lists in
     let shell = shell_line lists in
-    IfOk-weaker c.with_program-7.result _ _ (λ d is.
-    is ∙ ap (λ (a : App). with_subcommand a dump)
+    IfOk-weaker c.with_surveying.result _ _ (λ d is.
+    is ∙ ap with_surveying (c.in_ok-asking.ensures ∙ ap with_asking
+    (c.in_ok-dumping.ensures dump c.dump_program.ensures.line c.dump_program.ensures.local
+    ∙ ap (λ (a : App). with_subcommand a dump)
     (c.in_ok-joining.ensures join_line c.join_program.ensures.line c.join_program.ensures.local
     ∙ ap (λ (a : App). with_subcommand a join_line)
     (c.in_ok-paging.ensures pages_line c.pages_program.ensures.line c.pages_program.ensures.local
@@ -24,5 +26,5 @@ returns c =
     (c.in_ok-serving.ensures shell c.shell_program.ensures.line c.shell_program.ensures.local
     ∙ ap (λ (a : App). with_subcommand a shell)
     (c.in_ok-indexing.ensures index c.index_program.ensures.line c.index_program.ensures.local
-    ∙ ap (λ (a : App). with_subcommand a index) c.no_program.ensures)))))))
-    (c.with_program-7.ensures dump c.dump_program.ensures.line c.dump_program.ensures.local)
+    ∙ ap (λ (a : App). with_subcommand a index) c.no_program.ensures)))))))))
+    c.with_surveying.ensures

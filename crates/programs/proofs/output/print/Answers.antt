@@ -1,40 +1,10 @@
-use Rattle.std.proofs.Common.{◌∙◌, inr, refl, subst, sym}
-use Rattle.std.specs.String.{string_bytes}
-use Rattle.streams.specs.Writers.{IsCutOff, writing}
-use Rattle.protoscip.specs.Lines.{plain_line}
-use Rattle.protoscip.specs.declared.statuses.TheConstants.{STREAM_STATUS}
-use Rattle.std.specs.Prelude.{codes}
-use Rattle.programs.specs.Messages.{Tells}
-use Rattle.programs.specs.Printing.{is_closed}
-use Rattle.programs.proofs.MessageLemmas.{closed_ends, open_ends, told}
+use Rattle.std.proofs.Common.{ℕ, List, subst}
+use Rattle.streams.specs.Writers.{writing}
+use Rattle.programs.specs.Printing.{Prints}
 use Rattle.programs.proofs.output.print.Goals as goal
 
-pub returns-then-is_closed : goal.returns-then-is_closed
-returns-then-is_closed g c =
-    let count = c.in-Err.field-0.written in
-    let messages = writing g.M.Sink c.args.messages.now c.args.messages.now in
-    let cut = subst (λ text. IsCutOff (writing g.W.Sink c.args.out.now c.write_all.new.sink) text
-    count) c.as_bytes.ensures.value c.in-Err.ensures.err in
-    inr (
-      count,
-      cut,
-      closed_ends (is_closed (g.W.Caused.cause c.write_all.new.sink))
-          (Tells (plain_line (codes "Write")) STREAM_STATUS messages 0) messages 0
-          (sym c.is_closed.ensures ∙ c.if-is_closed.true) (refl, refl),
-    )
-
-pub returns-else-is_closed : goal.returns-else-is_closed
-returns-else-is_closed g c =
-    let count = c.in-Err.field-0.written in
-    let messages = writing g.M.Sink c.args.messages.now c.report.new.messages in
-    let cut = subst (λ text. IsCutOff (writing g.W.Sink c.args.out.now c.write_all.new.sink) text
-    count) c.as_bytes.ensures.value c.in-Err.ensures.err in
-    inr (
-      count,
-      cut,
-      open_ends (is_closed (g.W.Caused.cause c.write_all.new.sink))
-          (Tells (plain_line (codes "Write")) STREAM_STATUS messages c.report.result) messages c.report.result
-          (sym c.is_closed.ensures ∙ c.if-is_closed.false)
-          (told messages c.report.result _ _ string_bytes c.plain_line-line.result (plain_line (codes "Write")) refl
-          c.plain_line-line.ensures c.report.ensures),
-    )
+pub returns : goal.returns
+returns g c =
+    subst (λ (text : List ℕ). Prints g.W.Caused.cause text (writing g.W.Sink c.args.out.now c.print_bytes.new.out)
+    (writing g.M.Sink c.args.messages.now c.print_bytes.new.messages) c.print_bytes.result)
+    c.as_bytes.ensures.value c.print_bytes.ensures

@@ -5,10 +5,11 @@ use Rattle.std.specs.declared.alloc.AllocError.{AllocError}
 use Rattle.streams.specs.Readers.{reading}
 use Rattle.streams.specs.Writers.{writing}
 use Rattle.source_files.specs.Makers.{making}
-use Rattle.command_line.specs.Requests.{index_request, join_options, pages_options, printed_text, refused_text}
-use Rattle.command_line.specs.Requests.{shell_options, snapshot_options}
+use Rattle.command_line.specs.Requests.{ask_options, index_request, join_options, pages_options, printed_text}
+use Rattle.command_line.specs.Requests.{refused_text, shell_options, snapshot_options}
 use Rattle.command_line.specs.declared.options.IndexRequest.{IndexRequest}
 use Rattle.command_line.specs.declared.request.Request.{Request}
+use Rattle.programs.specs.AskedOnce.{RunsAsked}
 use Rattle.programs.specs.Indexing.{Indexed, WritesNavigable}
 use Rattle.programs.specs.Joining.{RunsJoin}
 use Rattle.programs.specs.Messages.{memory_line}
@@ -125,6 +126,17 @@ returns-in-Snapshot-clause-snapshotted g c =
     × (c.args.input.now ≡ c.args.input.now) × (c.args.places.now.report ≡ c.args.places.now.report)) in
     subst (λ (asked : Result Request AllocError). IfOk asked Here) (sym c.in-Ok.is)
     (subst Here (sym c.in-Snapshot.is) (c.snapshot.ensures, refl, refl))
+
+pub returns-in-Ask-clause-asked_once : goal.returns-in-Ask-clause-asked_once
+returns-in-Ask-clause-asked_once g c =
+    let Here : Request → Type 0 = λ request. IfSome (ask_options request) (λ options.
+    RunsAsked (g.F.ReadFiles.gives c.args.host.now.files.now) (g.F.LookAgain.blames c.args.host.now.files.now [] [])
+    g.W.Caused.cause options
+    (writing g.W.Sink c.args.out.now c.ask.new.out)
+    (writing g.M.Sink c.args.messages.now c.ask.new.messages) c.ask.result
+    × (c.args.input.now ≡ c.args.input.now) × (c.args.places.now ≡ c.args.places.now)) in
+    subst (λ (asked : Result Request AllocError). IfOk asked Here) (sym c.in-Ok.is)
+    (subst Here (sym c.in-Ask.is) (c.ask.ensures, refl, refl))
 
 pub returns-in-Pages-clause-paged : goal.returns-in-Pages-clause-paged
 returns-in-Pages-clause-paged g c =

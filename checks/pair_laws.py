@@ -102,6 +102,19 @@ def join_of_one(room, tree, row, _):
     return said or difference(done.index, joined)
 
 
+def texts_have_one_encoding(room, tree, row, _):
+    """An index of texts in another encoding isn't joined; one that says none is."""
+    done = room.index(tree, plain(row))
+    if done.status != 0:
+        return False
+    for encoding, wanted in ((2, b"OtherEncoding"), (0, None)):
+        other = edited(done.index, {1: {4: lambda _, value=encoding: value}, 2: None})
+        joined, said = room.joined(tree, [done.index, other])
+        if wanted is None and joined != done.index or wanted and wanted not in (said or "").encode():
+            return f"text encoding {encoding}: {said or 'it is joined'}"
+    return None
+
+
 # ---- what only adds
 
 
@@ -246,7 +259,7 @@ def questions(index, chance):
 
 def shell_answers(room, tree, row, chance):
     """`shell` answers as `query` does about the index, and says what `index` says."""
-    row = but(row, *LIMITS, "--quiet", "--report")
+    row = but(row, *LIMITS, "--quiet", "--sync", "--report")
     done = room.index(tree, row)
     if done.status != 0:
         return False
@@ -301,6 +314,6 @@ def roots_stay_apart(room, tree, row, _):
 
 
 LAWS = (same_elsewhere, same_for_workers, silent_words, explain_adds_lines, real_is_spelled, lenient_words,
-        unreached_is_nothing, excluded_is_gone, links_are_what_they_lead_to, join_of_one, details_only_add,
-        options_only_add, well_known_adds, odd_braces_keep_names, only_leaves_out, names_are_moved, units_are_moved,
-        parts_are_the_whole, shell_answers, is_shown, roots_stay_apart, *LAWS_OF_WHAT_IS_TOLD)
+        unreached_is_nothing, excluded_is_gone, links_are_what_they_lead_to, join_of_one, texts_have_one_encoding,
+        details_only_add, options_only_add, well_known_adds, odd_braces_keep_names, only_leaves_out, names_are_moved,
+        units_are_moved, parts_are_the_whole, shell_answers, is_shown, roots_stay_apart, *LAWS_OF_WHAT_IS_TOLD)

@@ -60,7 +60,7 @@ pub of_parsed : (dialect : Dialect) (text : List ℕ) (lexed : Lexed) (tree : Fi
     (found : List Import) → HasLexing dialect text lexed → Derives dialect lexed.text lexed.tokens tree
     → all ≡ imports_of lexed.text tree.imports → found ≡ map import_of all → TellsText dialect text found
 of_parsed dialect text lexed tree all found is_lexed derives are is =
-    subst (TellsText dialect text) (sym (is ∙ ap (map import_of) are)) (of_tree is_lexed derives)
+    subst (TellsText dialect text) (sym (is ∙ ap (map import_of) are)) (of_tree tree is_lexed derives)
 
 pub ruleset of_tells = (of_no_text, of_unlexed, of_unparsed, of_parsed)
 

@@ -19,7 +19,7 @@ import_of imported = record { path = imported.path; is_public = is_public import
 
 -- what a text imports: nothing if it can't be read
 pub data TellsText (dialect : Dialect) (text : List ℕ) : List Import → Type 0 where
-  of_tree : {lexed : Lexed} {tree : File} → HasLexing dialect text lexed → Derives dialect lexed.text lexed.tokens tree
+  of_tree : {lexed : Lexed} (tree : File) → HasLexing dialect text lexed → Derives dialect lexed.text lexed.tokens tree
       → TellsText dialect text (map import_of (imports_of lexed.text tree.imports))
   of_fault : (fault : FileFault) → IsUnreadable dialect false text fault → TellsText dialect text []
 

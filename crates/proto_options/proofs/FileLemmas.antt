@@ -17,6 +17,7 @@ use Rattle.proto_grammar.specs.declared.dialect.CustomOptions.TheVariants.{Skip}
 use Rattle.proto_grammar.specs.declared.fault.SyntaxFault.TheVariants.{Memory}
 use Rattle.proto_lex.specs.Lexed.{Lexed}
 use Rattle.proto_parse.specs.Derives.{Derives}
+use Rattle.proto_parse.proofs.Found.Files.{as_relation}
 use Rattle.proto_parse.specs.Limits.{max_message_depth}
 use Rattle.proto_decl.specs.Declares.{package_scope}
 use Rattle.proto_grammar.specs.Terminal.{first_is, of_kind, is_word, is_end}
@@ -248,8 +249,9 @@ pub gives_found : (lexed : Lexed) (tree : FileTree) (scope : List ℕ) (place re
 gives_found lexed tree scope place rest (Err fault) d e f gives = tt
 gives_found lexed tree scope place rest (Ok options) d e f gives =
     record {
-      derives = d;
-      each = options_found (length lexed.text) max_message_depth (package_scope lexed.text tree) d options rest
+      derives = as_relation d;
+      each = options_found (length lexed.text) max_message_depth (package_scope lexed.text tree) (as_relation d) options
+          rest
           (rw (e, f) at gives);
     }
 
@@ -281,14 +283,15 @@ pub gives_memory : (lexed : Lexed) (tree : FileTree) (scope : List ℕ) (place r
     → IfErr result (λ fault. fault ≡ Memory)
 gives_memory lexed tree scope place rest (Ok found) d e f gives = tt
 gives_memory lexed tree scope place rest (Err fault) d e f gives =
-    let its = file_listed (package_scope lexed.text tree) d in
-    gives_only lexed tree scope place rest (Err fault) e f gives its.options (record { derives = d; each = its.each })
+    let its = file_listed (package_scope lexed.text tree) (as_relation d) in
+    gives_only lexed tree scope place rest (Err fault) e f gives its.options
+    (record { derives = as_relation d; each = its.each })
 
 -- a file that derives has a list of options
 pub some_list : EachFileHasOptions
 some_list dialect lexed tree d =
-    let its = file_listed (package_scope lexed.text tree) d in
-    (its.options, record { derives = d; each = its.each })
+    let its = file_listed (package_scope lexed.text tree) (as_relation d) in
+    (its.options, record { derives = as_relation d; each = its.each })
 
 -- a file has one list of options at most
 pub one_list : OneListOfOptions

@@ -39,7 +39,8 @@ use Rattle.proto_parse.specs.Grammar.Messages.IsValue.{value}
 use Rattle.proto_parse.specs.Grammar.Messages.IsEnumItem.{empty as enums-empty, option as enums-option}
 use Rattle.proto_parse.specs.Grammar.Messages.IsEnumItem.{reserved as enums-reserved, value as enums-value}
 use Rattle.proto_parse.specs.Grammar.Messages.IsEnum.{enum}
-use Rattle.proto_parse.specs.Choice.{begins_other, begins_map, statement_words}
+use Rattle.proto_parse.specs.Choice.{begins_other, statement_words}
+use Rattle.proto_steps.specs.Choice.{begins_map}
 use Rattle.proto_parse.proofs.Choices.{named, option_begins, reserved_begins}
 use Rattle.proto_options.specs.declared.elements.Element.{Element}
 use Rattle.proto_options.specs.declared.elements.Element.TheVariants as of_a

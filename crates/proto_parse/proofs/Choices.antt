@@ -14,8 +14,8 @@ use Rattle.proto_grammar.specs.declared.tree.Method.{Method}
 use Rattle.proto_grammar.specs.declared.tree.Service.{Service}
 use Rattle.proto_grammar.specs.declared.tree.Import.{Import}
 use Rattle.proto_grammar.specs.declared.tree.Item.{Item}
-use Rattle.proto_parse.specs.declared.statement.MessageStatement.{MessageStatement}
-use Rattle.proto_parse.specs.declared.statement.MessageStatement.TheVariants as choice
+use Rattle.proto_steps.specs.declared.statement.MessageStatement.{MessageStatement}
+use Rattle.proto_steps.specs.declared.statement.MessageStatement.TheVariants as choice
 use Rattle.std.proofs.Common.{Option}
 use Rattle.std.proofs.lemmas.Bool.{and_parts}
 use Rattle.proto_grammar.specs.Lexeme.{Lexeme}
@@ -31,8 +31,9 @@ use Rattle.proto_grammar.specs.Grammar.Reserved.IsReserved.{reserved}
 use Rattle.proto_grammar.specs.Grammar.Reserved.IsExtensions.{extensions}
 use Rattle.proto_grammar.proofs.RepetitionStepLemmas.{both_false}
 use Rattle.proto_grammar.proofs.TerminalTokenLemmas.{same_kind, one_next, one_others}
-use Rattle.proto_parse.specs.Choice.{statement_words, begins_map, begins_other}
-use Rattle.proto_parse.specs.Reading.Choice.{file_statement_of, message_statement_of}
+use Rattle.proto_parse.specs.Choice.{statement_words, begins_other}
+use Rattle.proto_steps.specs.Choice.{begins_map}
+use Rattle.proto_steps.specs.Choice.{file_statement_of, message_statement_of}
 use Rattle.proto_parse.specs.Grammar.Files.{IsImport, IsPackage}
 use Rattle.proto_parse.specs.Grammar.Files.IsImport.{import}
 use Rattle.proto_parse.specs.Grammar.Files.IsPackage.{package_statement}

@@ -1,20 +1,18 @@
 -- Each file is named after the spec or source that it serves.
+-- The grammar as data is read as functions on places read it
+pub mod Agreement
 -- The word that is next chooses the production, and a field or a group is next if nothing else is
 pub mod Choices
 pub mod Exact
 -- The lists of a tree that are never empty
 pub mod Filled
 pub mod Found
--- What is in the grammar leaves fewer tokens
-pub mod GrammarShorterLemmas
 -- What is left of the tokens after a part is a tail of them
 pub mod GrammarTailLemmas
--- What is proto3 is proto3 if all sources are accepted, too, unless an extend is read past
-pub mod LawWidenedLemmas
--- What isn't read where no level is left, and what is inside is read a level down
-pub mod MessageStopLemmas
 -- What is found in the parts of a tree
 pub mod PartLemmas
+-- How sources are read, on places
+pub mod Reading
 -- Each step of a loop takes a token
 pub mod ReadingFallLemmas
 -- A front of the tokens, and whether it goes on behind a token at which the machine stops

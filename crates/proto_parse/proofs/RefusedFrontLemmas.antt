@@ -14,14 +14,15 @@ use Rattle.proto_grammar.specs.Lexeme.{Lexeme, Place, place_of}
 use Rattle.proto_grammar.specs.Terminal.{first_is, is_word, is_end}
 use Rattle.proto_grammar.specs.Reading.Repetition.{until_at}
 use Rattle.proto_grammar.proofs.TerminalTokenLemmas.{word_kind}
-use Rattle.proto_parse.specs.Limits.{max_message_depth}
-use Rattle.proto_parse.specs.Grammar.Files.{IsFileWithin, empty_file}
-use Rattle.proto_parse.specs.Reading.Files.{statement_at, statements_at, file_at}
-use Rattle.proto_parse.specs.Reading.Syntax.{syntax_at}
+use Rattle.proto_steps.specs.Limits.{max_message_depth}
+use Rattle.proto_parse.specs.Grammar.Files.{empty_file}
+use Rattle.proto_parse.specs.Derives.{DerivesWithin}
+use Rattle.proto_parse.proofs.Reading.Files.{statement_at, statements_at, file_at}
+use Rattle.proto_parse.proofs.Reading.Syntax.{syntax_at}
 use Rattle.proto_parse.specs.Refused.{GoesOn, IsWrong, NamesAVersion, group_start}
 use Rattle.proto_parse.specs.Refused.{is_label}
-use Rattle.proto_parse.proofs.Found.Files.{file_found}
-use Rattle.proto_parse.proofs.Exact.Files.{file_exact}
+use Rattle.proto_parse.proofs.Agreement.Files.{file_found}
+use Rattle.proto_parse.proofs.Agreement.Files.{file_exact}
 use Rattle.proto_parse.proofs.RefusedMachine.{Why, Step, Fed, machine, going, feed}
 use Rattle.proto_parse.proofs.RefusedMachine.Refusal.{GroupNext}
 use Rattle.proto_parse.proofs.RefusedMachine.Why.{Misplaced, Escaped, Refused}
@@ -74,17 +75,17 @@ module _ (levels : ℕ) (dialect : Dialect) (syntax : Syntax) (start : List Lexe
 
     -- what the machine reads is a file
     pub machine_file : (l : List Lexeme) (seen : Bool) → Allows start l → machine st l [] false ≡ Whole seen
-        → (tree : File) × IsFileWithin levels dialect (start ++ l) tree × (is_some tree.package_name ≡ seen)
+        → (tree : File) × DerivesWithin levels dialect (start ++ l) tree × (is_some tree.package_name ≡ seen)
     machine_file l seen allows e =
         let x = whole_read l seen (until_at is_end (statement_at levels syntax) empty_file (place_of 0 l))
         (statements_follow levels syntax empty_file (place_of 0 l)) e in
         (x.0.0, file_found levels dialect (place_of 0 (start ++ l)) x.0 (read_by l 0 allows ∙ x.1), x.2)
 
     -- and the other way round
-    pub file_machine : (l : List Lexeme) (tree : File) → Allows start l → IsFileWithin levels dialect (start ++ l) tree
+    pub file_machine : (l : List Lexeme) (tree : File) → Allows start l → DerivesWithin levels dialect (start ++ l) tree
         → machine st l [] false ≡ Whole (is_some tree.package_name)
     file_machine l tree allows is =
-        let read = file_exact 0 is in
+        let read = file_exact 0 levels dialect (start ++ l) tree is in
         let statements : until_at is_end (statement_at levels syntax) empty_file (place_of 0 l)
         ≡ Ok (tree, place_of 0 read.0) = sym (read_by l 0 allows) ∙ read.1 in
         subst (λ (r : Result (File × Place) SyntaxFault).
@@ -103,7 +104,7 @@ module _ (levels : ℕ) (dialect : Dialect) (syntax : Syntax) (start : List Lexe
         record {
           more = more;
           tree = f.0;
-          is_file = subst (λ all. IsFileWithin levels dialect all f.0) (sym (append_assoc start front more)) f.1;
+          is_file = subst (λ all. DerivesWithin levels dialect all f.0) (sym (append_assoc start front more)) f.1;
         }
 
     -- the same with a token behind the front
@@ -115,7 +116,7 @@ module _ (levels : ℕ) (dialect : Dialect) (syntax : Syntax) (start : List Lexe
         record {
           more = c;
           tree = f.0;
-          is_file = subst (λ all. IsFileWithin levels dialect all f.0)
+          is_file = subst (λ all. DerivesWithin levels dialect all f.0)
               (sym (append_assoc start front (t ∷ c)) ∙ sym (append_assoc (start ++ front) (t ∷ []) c)) f.1;
         }
 
@@ -124,7 +125,7 @@ module _ (levels : ℕ) (dialect : Dialect) (syntax : Syntax) (start : List Lexe
         → machine (statement_step levels syntax) (front ++ t ∷ g.more) [] false ≡ Whole (is_some g.tree.package_name)
     token_machine front t g allows =
         file_machine levels dialect syntax start opens (front ++ t ∷ g.more) g.tree allows
-        (subst (λ all. IsFileWithin levels dialect all g.tree)
+        (subst (λ all. DerivesWithin levels dialect all g.tree)
         (append_assoc (start ++ front) (t ∷ []) g.more ∙ append_assoc start front (t ∷ g.more)) g.is_file)
 
 -- what is allowed is told by the first token

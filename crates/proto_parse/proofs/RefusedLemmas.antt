@@ -18,10 +18,12 @@ use Rattle.proto_grammar.specs.Terminal.{is_kind, first_is, of_kind, is_word, of
 use Rattle.proto_grammar.specs.Grammar.Repetition.One.{one}
 use Rattle.proto_grammar.specs.Syntax.{custom_in}
 use Rattle.proto_parse.specs.Faults.{is_of_custom_options}
-use Rattle.proto_parse.specs.Limits.{max_message_depth}
-use Rattle.proto_parse.specs.Grammar.Files.{IsSyntax, IsFileWithin, IsFile}
-use Rattle.proto_parse.specs.Grammar.Files.IsSyntax.{proto3, proto2, no_statement as no_syntax}
+use Rattle.proto_steps.specs.Limits.{max_message_depth}
+use Rattle.proto_parse.specs.Grammar.Files.{IsSyntax, IsFileWithin}
 use Rattle.proto_parse.specs.Grammar.Files.IsFileWithin.{file}
+use Rattle.proto_parse.specs.Derives.{DerivesWithin}
+use Rattle.proto_parse.proofs.Found.Files.{as_relation}
+use Rattle.proto_parse.specs.Grammar.Files.IsSyntax.{proto3, proto2, no_statement as no_syntax}
 use Rattle.proto_parse.specs.Refused.{GoesOn, IsWrong, NamesNoVersion, WouldGoOn, IsRefused, group_start}
 use Rattle.proto_parse.specs.Refused.NamesNoVersion.{no_statement, edition, other as other_version}
 use Rattle.proto_parse.specs.Refused.WouldGoOn.{custom_option, aggregate, extend, two_packages, import_escape, too_deep}
@@ -45,7 +47,7 @@ goes_further : (levels : ℕ) (dialect : Dialect) (front : List Lexeme) (t : Lex
 goes_further levels dialect front t m on = record {
   more = m ++ on.more;
   tree = on.tree;
-  is_file = subst (λ all. IsFileWithin levels dialect all on.tree)
+  is_file = subst (λ all. DerivesWithin levels dialect all on.tree)
       (append_assoc front (t ∷ m) on.more ∙ sym (append_assoc front (t ∷ []) (m ++ on.more))) on.is_file;
 }
 
@@ -164,7 +166,7 @@ kind_is dialect front t (extend d is on) =
       word_no (codes "extend") StringLiteral t refl is,
       is,
     ) refl
-kind_is dialect front t (two_packages is d some) =
+kind_is dialect front t (two_packages tree is d some) =
     rw (
       word_no (codes "package") OpenParenthesis t refl is,
       word_no (codes "package") OpenBrace t refl is,
@@ -238,17 +240,23 @@ one_fault (missing v on none) (missing v' on' none') = refl
 
 -- a file begins with each of its fronts
 begins : (dialect : Dialect) (tokens f : List Lexeme) (t : Lexeme) (b : List Lexeme) (tree : File)
-    → IsFile dialect tokens tree → tokens ≡ f ++ t ∷ b → GoesOn max_message_depth dialect (f ++ t ∷ [])
+    → DerivesWithin max_message_depth dialect tokens tree → tokens ≡ f ++ t ∷ b → GoesOn max_message_depth dialect
+    (f ++ t ∷ [])
 begins dialect tokens f t b tree d e = record {
   more = b;
   tree = tree;
-  is_file = subst (λ all. IsFileWithin max_message_depth dialect all tree) (e ∙ sym (append_assoc f (t ∷ []) b)) d;
+  is_file = subst (λ all. DerivesWithin max_message_depth dialect all tree) (e ∙ sym (append_assoc f (t ∷ []) b)) d;
 }
 
+-- the syntax statement of a file
+syntax_of : {levels : ℕ} {dialect : Dialect} {tokens : List Lexeme} {tree : File}
+    → IsFileWithin levels dialect tokens tree → (x : Syntax) × (b : List Lexeme) × IsSyntax dialect tokens x b
+syntax_of (file {b = b} {syntax = x} s u) = (x, b, s)
+
 pub no_fault : {dialect : Dialect} {tokens : List Lexeme} {end : ℕ} {fault : SyntaxFault} (tree : File)
-    → IsFile dialect tokens tree → IsRefused dialect tokens end fault → ⊥
-no_fault {dialect} tree (file {b = b} {syntax = x} s u) (not_proto3 e n) =
-    version_named n (subst (λ all. IsSyntax dialect all x b) e s)
+    → DerivesWithin max_message_depth dialect tokens tree → IsRefused dialect tokens end fault → ⊥
+no_fault {dialect} tree d (not_proto3 e n) =
+    let s = syntax_of (as_relation d) in version_named n (subst (λ all. IsSyntax dialect all s.0 s.1) e s.2)
 no_fault {dialect} {tokens} tree d (would_go_on {front = f} {t = t} b v e w g) =
     w.here (begins dialect tokens f t b tree d e)
 no_fault {dialect} {tokens} tree d (wrong {front = f} {t = t} b v e w none) =
@@ -265,7 +273,7 @@ no_option : {dialect : Dialect} {front : List Lexeme} {t : Lexeme} {fault : Synt
 no_option skips (custom_option is k on) = never_refused skips is
 no_option skips (aggregate is k on) = never_refused skips is
 no_option skips (extend is k on) = never_refused skips is
-no_option skips (two_packages is d some) = refl
+no_option skips (two_packages tree is d some) = refl
 no_option skips (import_escape plain is escaped p on) = refl
 no_option skips (too_deep is on) = refl
 no_option skips (group_too_deep is on) = refl

@@ -19,19 +19,23 @@ use Rattle.proto_grammar.specs.Terminal.{first_is, of_kind, is_word, not_next, i
 use Rattle.proto_grammar.specs.Reading.Repetition.{and_then, token_that, until_at}
 use Rattle.proto_grammar.proofs.RepetitionStepLemmas.{same_ok, stopped}
 use Rattle.proto_grammar.proofs.TerminalTokenLemmas.{other_kind}
-use Rattle.proto_parse.specs.Reading.Choice.{version_of}
+use Rattle.proto_steps.specs.Version.{version_of}
 use Rattle.proto_parse.specs.Faults.{is_of_custom_options}
-use Rattle.proto_parse.specs.Limits.{max_message_depth}
-use Rattle.proto_parse.specs.Grammar.Files.{SpellsJoined, IsFile, empty_file}
-use Rattle.proto_parse.specs.Reading.Files.{statement_at, statements_at, file_at}
-use Rattle.proto_parse.specs.Reading.Syntax.{syntax_at, syntax_statement_at, version_at, syntax_by, joined_of}
-use Rattle.proto_parse.specs.Reading.Syntax.{behind_literals}
+use Rattle.proto_steps.specs.Limits.{max_message_depth}
+use Rattle.proto_parse.specs.Grammar.Files.{SpellsJoined, empty_file}
+use Rattle.proto_parse.specs.Derives.{DerivesWithin}
+use Rattle.proto_parse.proofs.Reading.Files.{statement_at, statements_at, file_at}
+use Rattle.proto_parse.proofs.Reading.Syntax.{syntax_at, syntax_statement_at}
+use Rattle.proto_steps.specs.Version.{version_at, syntax_by, joined_of}
+use Rattle.proto_steps.specs.Version.{behind_literals}
 use Rattle.proto_parse.specs.Derives.{Derives}
 use Rattle.proto_parse.specs.Refused.{NamesAVersion, IsRefused, HasFault}
 use Rattle.proto_parse.specs.Refused.NamesNoVersion.{no_statement, edition, other as other_version}
 use Rattle.proto_parse.specs.Refused.IsRefused.{not_proto3}
-use Rattle.proto_parse.proofs.Exact.Files.{syntax_exact, file_exact}
-use Rattle.proto_parse.proofs.Found.Files.{syntax_found, version_text, proto2_accepted, file_found}
+use Rattle.proto_parse.proofs.Exact.Files.{syntax_exact}
+use Rattle.proto_parse.proofs.Agreement.Files.{file_exact}
+use Rattle.proto_parse.proofs.Found.Files.{syntax_found, version_text, proto2_accepted}
+use Rattle.proto_parse.proofs.Agreement.Files.{file_found}
 use Rattle.std.proofs.lemmas.List.{append-nil}
 use Rattle.std.proofs.lemmas.Bool.{and_parts, false≢true}
 use Rattle.proto_grammar.specs.Grammar.Repetition.One.{one}
@@ -162,13 +166,14 @@ module _ (dialect : Dialect) (end : ℕ) (k : Lexeme) (ke : is_word (codes "synt
 
       literals_finished : (lits : List Lexeme)
           → ((c : List Lexeme) → not_next StringLiteral c ≡ true → SpellsJoined (lits ++ c) (joined_of l) c)
-          → IsFile dialect (k ∷ (q ∷ (lits ++ end_sign ∷ []))) empty_file
+          → DerivesWithin max_message_depth dialect (k ∷ (q ∷ (lits ++ end_sign ∷ []))) empty_file
       literals_finished lits spelled =
           version_once
           (λ three. only_statement (proto3 (one ke) (one qe)
           (subst (λ t. SpellsJoined (lits ++ end_sign ∷ []) t (end_sign ∷ [])) three (spelled (end_sign ∷ []) refl))
           (one refl)))
-          (λ only two. subst (λ d. IsFile d (k ∷ (q ∷ (lits ++ end_sign ∷ []))) empty_file) (sym only)
+          (λ only two. subst (λ d. DerivesWithin max_message_depth d (k ∷ (q ∷ (lits ++ end_sign ∷ []))) empty_file)
+          (sym only)
           (only_statement (proto2 (one ke) (one qe)
           (subst (λ t. SpellsJoined (lits ++ end_sign ∷ []) t (end_sign ∷ [])) two (spelled (end_sign ∷ []) refl))
           (one refl))))
@@ -341,7 +346,7 @@ syntax_refused dialect (k ∷ l) end x e = by_word (is_word (codes "syntax") k) 
 statements_refused : (dialect : Dialect) (syntax : Syntax) (left : List Lexeme) (end : ℕ) (q : Place) (x : SyntaxFault)
     → syntax_at dialect (place_of end left) ≡ Ok (syntax, q)
     → until_at is_end (statement_at max_message_depth syntax) empty_file q ≡ stopped {A = File × Place} x
-    → ((tree : File) → IsFile dialect left tree → ⊥) → Met dialect left end x
+    → ((tree : File) → DerivesWithin max_message_depth dialect left tree → ⊥) → Met dialect left end x
 statements_refused dialect syntax left end q x read e none =
     let s = syntax_found dialect (place_of end left) (syntax, q) read in
     let front = syntax_front s in
@@ -359,15 +364,16 @@ statements_refused dialect syntax left end q x read e none =
     subst (λ a. Met dialect a end x) (sym front.1)
     (outcome_refused dialect syntax front.0 q.left end front.2
     (machine (statement_step max_message_depth syntax) q.left [] false) refl x tells
-    (λ tree is. none tree (subst (λ a. IsFile dialect a tree) (sym front.1) is)))
+    (λ tree is. none tree (subst (λ a. DerivesWithin max_message_depth dialect a tree) (sym front.1) is)))
 
 file_refused : (dialect : Dialect) (left : List Lexeme) (end : ℕ) (x : SyntaxFault)
     → file_at max_message_depth dialect (place_of end left) ≡ stopped {A = File × Place} x → Met dialect left end x
 unfolding file_at statements_at
 file_refused dialect left end x e = by_syntax (syntax_at dialect (place_of end left)) refl e
   where
-    none : (tree : File) → IsFile dialect left tree → ⊥
-    none tree is = let read = (file_exact end is).1 in let never = sym e ∙ read in cc
+    none : (tree : File) → DerivesWithin max_message_depth dialect left tree → ⊥
+    none tree is = let read = (file_exact end max_message_depth dialect left tree is).1 in let never = sym e ∙ read in
+        cc
 
     by_syntax : (o : Result (Syntax × Place) SyntaxFault) → syntax_at dialect (place_of end left) ≡ o
         → and_then o (λ syntax. until_at is_end (statement_at max_message_depth syntax.0) empty_file syntax.1)

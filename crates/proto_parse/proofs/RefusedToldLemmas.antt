@@ -16,9 +16,9 @@ use Rattle.proto_grammar.specs.declared.tree.File.{File}
 use Rattle.proto_grammar.specs.Lexeme.{Lexeme, place_of}
 use Rattle.proto_grammar.specs.Terminal.{of_kind, is_word, is_plain_literal, offset_at}
 use Rattle.proto_grammar.proofs.TerminalTokenLemmas.{word_kind, kind_no_word}
-use Rattle.proto_parse.specs.Limits.{max_message_depth}
+use Rattle.proto_steps.specs.Limits.{max_message_depth}
 use Rattle.proto_parse.specs.Faults.{is_of_custom_options}
-use Rattle.proto_parse.specs.Grammar.Files.{IsFile}
+use Rattle.proto_parse.specs.Derives.{DerivesWithin}
 use Rattle.proto_parse.specs.Refused.{GoesOn, IsWrong, WouldGoOn, IsRefused, group_start}
 use Rattle.proto_parse.specs.Refused.WouldGoOn.{custom_option, aggregate, extend, two_packages, import_escape, too_deep}
 use Rattle.proto_parse.specs.Refused.WouldGoOn.{group_too_deep}
@@ -165,7 +165,8 @@ module _ (dialect : Dialect) (syntax : Syntax) (start l left : List Lexeme) (end
       subst (λ y. IsRefused dialect (start ++ l) end y) (sym (e ∙ ap make at_token)) (would (make s.token.span.start) w)
 
   -- a second package would be told
-  no_second : is_word (codes "package") s.token ≡ true → (tree : File) → IsFile dialect ahead tree
+  no_second : is_word (codes "package") s.token ≡ true → (tree : File) → DerivesWithin max_message_depth dialect ahead
+      tree
       → is_some tree.package_name ≡ true → ⊥
   no_second is tree is_file some =
       let read : machine step s.front [] false ≡ Whole true =
@@ -194,7 +195,7 @@ module _ (dialect : Dialect) (syntax : Syntax) (start l left : List Lexeme) (end
   none_would other options levels x (custom_option only is g) = options_stop only (options only) g
   none_would other options levels x (aggregate only is g) = options_stop only (options only) g
   none_would other options levels x (extend only is g) = options_stop only (options only) g
-  none_would other options levels x (two_packages {tree} is whole some) = no_second is tree whole some
+  none_would other options levels x (two_packages tree is whole some) = no_second is tree whole some
   none_would other options levels x (import_escape u is escaped plain g) = literal_stop other u is plain g
   none_would other options levels x (too_deep is g) = levels_stop levels g
   none_would other options levels x (group_too_deep is g) = levels_stop levels g
@@ -353,11 +354,11 @@ module _ (dialect : Dialect) (syntax : Syntax) (start l left : List Lexeme) (end
       subst (λ y. IsRefused dialect (start ++ l) end y) (sym (e ∙ ap variant.TwoPackages at))
       (would_go_on s.behind f.named (tokens_are dialect syntax start l left end f SecondPackage tt s)
       (is_wrong dialect syntax start l left end f SecondPackage tt s)
-      (two_packages {tree = file.0} is file.1 file.2))
+      (two_packages file.0 is file.1 file.2))
 
   -- tokens are missing
   missing_refused : machine (statement_step max_message_depth syntax) l [] false ≡ Missing
-      → ((tree : File) → IsFile dialect (start ++ l) tree → ⊥)
+      → ((tree : File) → DerivesWithin max_message_depth dialect (start ++ l) tree → ⊥)
       → IsRefused dialect (start ++ l) end (variant.Grammar end)
   missing_refused e none =
       let s = ends_at (statement_step max_message_depth syntax) l [] false Missing tt e in
@@ -374,7 +375,7 @@ pub outcome_refused : (dialect : Dialect) (syntax : Syntax) (start l : List Lexe
     (f : Front dialect syntax start l) (o : Outcome)
     → machine (statement_step max_message_depth syntax) l [] false ≡ o → (x : SyntaxFault)
     → Tells (place_of end l) o x
-    → ((tree : File) → IsFile dialect (start ++ l) tree → ⊥) → Met dialect (start ++ l) end x
+    → ((tree : File) → DerivesWithin max_message_depth dialect (start ++ l) tree → ⊥) → Met dialect (start ++ l) end x
 outcome_refused dialect syntax start l end f (Whole seen) e x tells none = absurd tells
 outcome_refused dialect syntax start l end f Missing e x tells none =
     met x (subst (λ y. IsRefused dialect (start ++ l) end y) (sym tells)

@@ -1,5 +1,5 @@
 -- Syntax statements: what is behind one that is read, and the fault of one that isn't.
-use Rattle.std.proofs.Common.{◌≡◌, ℕ, suc, true, false, not, Ok, Err, Option, Some, None}
+use Rattle.std.proofs.Common.{◌≡◌, ℕ, suc, true, false, not, Result, Ok, Err, Option, Some, None}
 use Rattle.std.proofs.Common.{List, [], ◌∷◌, ◌++◌, refl, sym, ◌∙◌, ap, subst, codes, append_assoc}
 use Rattle.proto_lex.specs.declared.token.TokenKind.TheVariants.{StringLiteral, Semicolon, Equals}
 use Rattle.proto_grammar.specs.declared.fault.SyntaxFault.{SyntaxFault}
@@ -10,21 +10,23 @@ use Rattle.proto_grammar.specs.declared.dialect.Dialect.TheVariants.{Proto3, All
 use Rattle.proto_grammar.specs.declared.dialect.Syntax.{Syntax}
 use Rattle.proto_grammar.specs.declared.dialect.Syntax.TheVariants as grammar
 use Rattle.proto_grammar.specs.declared.tree.File.{File}
-use Rattle.proto_grammar.specs.Lexeme.{Lexeme, place_of}
+use Rattle.proto_grammar.specs.Lexeme.{Lexeme, Place, place_of}
 use Rattle.proto_grammar.specs.Syntax.{proto3_in}
 use Rattle.proto_grammar.specs.Terminal.{first_is, of_kind, is_word, is_plain_literal, not_next, offset_at}
 use Rattle.proto_grammar.specs.Grammar.Repetition.One.{one}
-use Rattle.proto_grammar.specs.Grammar.Repetition.Until.{done}
-use Rattle.proto_grammar.specs.Reading.Repetition.{token_that}
+use Rattle.proto_grammar.specs.Reading.Repetition.{and_then, token_that, until_at}
 use Rattle.proto_grammar.proofs.TerminalTokenLemmas.{other_kind, other_word, kind_no_word}
-use Rattle.proto_parse.specs.Reading.Choice.{version_of}
-use Rattle.proto_parse.specs.Limits.{max_message_depth}
-use Rattle.proto_parse.specs.Grammar.Files.{SpellsJoined, IsSyntax, IsFileWithin, IsFile, empty_file}
+use Rattle.proto_steps.specs.Version.{version_of}
+use Rattle.proto_steps.specs.Limits.{max_message_depth}
+use Rattle.proto_parse.specs.Grammar.Files.{SpellsJoined, IsSyntax, empty_file}
+use Rattle.proto_parse.specs.Derives.{DerivesWithin}
 use Rattle.proto_parse.specs.Grammar.Files.SpellsJoined.{none as none_joined, some as some_joined}
 use Rattle.proto_parse.specs.Grammar.Files.IsSyntax.{proto3, proto2, no_statement as no_syntax}
-use Rattle.proto_parse.specs.Grammar.Files.IsFileWithin.{file}
-use Rattle.proto_parse.specs.Reading.Syntax.{syntax_at, syntax_statement_at, version_at, syntax_by, joined_of}
-use Rattle.proto_parse.specs.Reading.Syntax.{behind_literals}
+use Rattle.proto_parse.proofs.Reading.Syntax.{syntax_at, syntax_statement_at}
+use Rattle.proto_parse.proofs.Reading.Files.{statements_at, file_at}
+use Rattle.proto_parse.proofs.Agreement.Files.{file_found, file_exact}
+use Rattle.proto_steps.specs.Version.{version_at, syntax_by, joined_of}
+use Rattle.proto_steps.specs.Version.{behind_literals}
 use Rattle.proto_parse.specs.Refused.{GoesOn, NamesAVersion, WouldGoOn, IsRefused, is_label}
 use Rattle.proto_parse.specs.Refused.NamesNoVersion.{no_statement, edition, other as other_version}
 use Rattle.proto_parse.specs.Refused.WouldGoOn.{custom_option, aggregate, extend, two_packages, import_escape, too_deep}
@@ -141,16 +143,19 @@ abbrev pub Stops : List Lexeme → Type 0
 Stops a = (dialect : Dialect) → (x : SyntaxFault) × (syntax_at dialect (place_of 0 a) ≡ Err x)
 
 no_file : (levels : ℕ) (dialect : Dialect) (a : List Lexeme) (tree : File) → Stops a
-    → IsFileWithin levels dialect a tree
+    → DerivesWithin levels dialect a tree
     → ⊥
-no_file levels dialect a tree stops (file {syntax = x} s u) =
+unfolding file_at
+no_file levels dialect a tree stops d =
     let e = stops dialect in
-    let read = syntax_exact 0 s in
-    let never = sym e.1 ∙ read in
+    let read = file_exact 0 levels dialect a tree d in
+    let never : ◌≡◌ {A = Result (File × Place) SyntaxFault} (Err e.0) (Ok (tree, place_of 0 read.0)) =
+    ap (λ (o : Result (Syntax × Place) SyntaxFault). and_then o (λ x. statements_at levels x.0 x.1)) (sym e.1) ∙ read.1
+    in
     cc
 
 module _ (dialect : Dialect) (front : List Lexeme) (more : List Lexeme)
-    (finished : IsFile dialect (front ++ more) empty_file) where
+    (finished : DerivesWithin max_message_depth dialect (front ++ more) empty_file) where
   cut_goes_on : GoesOn max_message_depth dialect front
   cut_goes_on = record { more = more; tree = empty_file; is_file = finished }
 
@@ -173,16 +178,16 @@ module _ (dialect : Dialect) (front : List Lexeme) (more : List Lexeme)
       not_on : (levels : ℕ) (other : Dialect) → GoesOn levels other (front ++ t ∷ []) → ⊥
       not_on levels other g =
           no_file levels other (front ++ t ∷ g.more) g.tree (here g.more)
-          (subst (λ all. IsFileWithin levels other all g.tree) (append_assoc front (t ∷ []) g.more) g.is_file)
+          (subst (λ all. DerivesWithin levels other all g.tree) (append_assoc front (t ∷ []) g.more) g.is_file)
 
       none_would : (x : SyntaxFault) → WouldGoOn dialect front t x → ⊥
       none_would x (custom_option only is g) = not_on max_message_depth (Proto3 Skip) g
       none_would x (aggregate only is g) = not_on max_message_depth (Proto3 Skip) g
       none_would x (extend only is g) = not_on max_message_depth (Proto3 Skip) g
-      none_would x (two_packages {tree} is f some) = no_file max_message_depth dialect front tree stops f
+      none_would x (two_packages tree is f some) = no_file max_message_depth dialect front tree stops f
       none_would x (import_escape u is escaped plain g) =
           no_file max_message_depth dialect (front ++ u ∷ g.more) g.tree (literals u is plain g.more)
-          (subst (λ all. IsFileWithin max_message_depth dialect all g.tree) (append_assoc front (u ∷ []) g.more)
+          (subst (λ all. DerivesWithin max_message_depth dialect all g.tree) (append_assoc front (u ∷ []) g.more)
           g.is_file)
       none_would x (too_deep is g) = not_on (suc max_message_depth) dialect g
       none_would x (group_too_deep is g) = not_on (suc max_message_depth) dialect g
@@ -206,8 +211,10 @@ end_sign = record { kind = Semicolon; spelling = []; span = record { start = 0; 
 
 -- a statement and nothing behind it is a file
 pub only_statement : {dialect : Dialect} {a : List Lexeme} {x : Syntax} → IsSyntax dialect a x []
-    → IsFile dialect a empty_file
-only_statement s = file s (done refl)
+    → DerivesWithin max_message_depth dialect a empty_file
+unfolding file_at statements_at until_at
+only_statement {dialect} {a} s =
+    file_found max_message_depth dialect (place_of 0 a) (empty_file, place_of 0 []) (rw (syntax_exact 0 s) refl)
 
 proto3_named : SpellsJoined (proto3_literal ∷ (end_sign ∷ [])) (codes "proto3") (end_sign ∷ [])
 proto3_named = some_joined refl (none_joined refl)
@@ -215,7 +222,8 @@ proto3_named = some_joined refl (none_joined refl)
 module _ (k : Lexeme) (ke : is_word (codes "syntax") k ≡ true) where
   -- behind the word
   pub word_finished : (dialect : Dialect)
-      → IsFile dialect ((k ∷ []) ++ equals_sign ∷ (proto3_literal ∷ (end_sign ∷ []))) empty_file
+      → DerivesWithin max_message_depth dialect ((k ∷ []) ++ equals_sign ∷ (proto3_literal ∷ (end_sign ∷ [])))
+      empty_file
   word_finished dialect = only_statement (proto3 (one ke) (one refl) proto3_named (one refl))
 
   pub word_stops : Stops (k ∷ [])
@@ -253,7 +261,7 @@ module _ (k : Lexeme) (ke : is_word (codes "syntax") k ≡ true) where
   -- behind `=`
   module _ (q : Lexeme) (qe : of_kind Equals q ≡ true) where
     pub equals_finished : (dialect : Dialect)
-        → IsFile dialect ((k ∷ (q ∷ [])) ++ proto3_literal ∷ (end_sign ∷ [])) empty_file
+        → DerivesWithin max_message_depth dialect ((k ∷ (q ∷ [])) ++ proto3_literal ∷ (end_sign ∷ [])) empty_file
     equals_finished dialect = only_statement (proto3 (one ke) (one qe) proto3_named (one refl))
 
     pub equals_stops : Stops (k ∷ (q ∷ []))

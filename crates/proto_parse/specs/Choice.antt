@@ -1,17 +1,11 @@
 -- What begins a field or a group of a message: none of what begins its other statements.
-use Rattle.std.specs.Prelude.{ℕ, Bool, ◌&&◌, ◌||◌, List, [], ◌∷◌, codes}
+use Rattle.std.specs.Prelude.{ℕ, Bool, ◌||◌, List, [], ◌∷◌, codes}
 use Rattle.std.specs.List.{list_any}
-use Rattle.proto_lex.specs.declared.token.TokenKind.TheVariants.{Semicolon, Less}
+use Rattle.proto_lex.specs.declared.token.TokenKind.TheVariants.{Semicolon}
 use Rattle.proto_grammar.specs.Lexeme.{Lexeme}
-use Rattle.proto_grammar.specs.Terminal.{first_is, others, of_kind, is_word}
-use Rattle.proto_grammar.specs.Syntax.{is_proto2}
+use Rattle.proto_grammar.specs.Terminal.{first_is, of_kind, is_word}
 use Rattle.proto_grammar.specs.declared.dialect.Syntax.{Syntax}
-
--- Whether a map field is next: the word `map`. In proto3 a `<` has to follow, since a field may begin with the name of
--- its type there.
-abbrev pub begins_map : Syntax → List Lexeme → Bool
-begins_map syntax a =
-    first_is (is_word (codes "map")) a && (is_proto2 syntax || first_is (of_kind Less) (others a))
+use Rattle.proto_steps.specs.Choice.{begins_map}
 
 -- The first words of the others.
 abbrev pub statement_words : List (List ℕ)

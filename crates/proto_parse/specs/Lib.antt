@@ -9,7 +9,7 @@ pub use Rattle.proto_grammar.specs.declared.dialect
 pub use Rattle.proto_grammar.specs.declared.tree
 pub use Rattle.proto_grammar.specs.declared.fault
 -- The grammar
-pub mod Limits
+pub use Rattle.proto_steps.specs.Limits
 pub mod Choice
 pub mod Grammar
 pub mod Derives
@@ -21,5 +21,3 @@ pub mod Parts
 pub mod Walk
 -- The lists of a tree that are never empty
 pub mod Filled
--- What the parser does
-pub mod Reading

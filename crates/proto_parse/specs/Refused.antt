@@ -15,15 +15,16 @@ use Rattle.proto_grammar.specs.declared.tree.File.{File}
 use Rattle.proto_lex.specs.declared.token.Token.{Token}
 use Rattle.proto_grammar.specs.Lexeme.{Lexeme, place_of, lexemes_of}
 use Rattle.proto_grammar.specs.Terminal.{first_is, of_kind, is_word, is_plain_literal, offset_at}
-use Rattle.proto_parse.specs.Limits.{max_message_depth}
-use Rattle.proto_parse.specs.Grammar.Files.{SpellsJoined, IsFileWithin, IsFile}
+use Rattle.proto_steps.specs.Limits.{max_message_depth}
+use Rattle.proto_parse.specs.Grammar.Files.{SpellsJoined}
+use Rattle.proto_parse.specs.Derives.{DerivesWithin}
 
 -- The front can be finished: some tokens behind it make a file, in which at most `levels` messages and groups are
 -- inside one another.
 pub record GoesOn (levels : ℕ) (dialect : Dialect) (front : List Lexeme) : Type 0 where
   pub more : List Lexeme
   pub tree : File
-  pub is_file : IsFileWithin levels dialect (front ++ more) tree
+  pub is_file : DerivesWithin levels dialect (front ++ more) tree
 
 -- A token with which what is in front of it can't be finished. There is at most one.
 pub record IsWrong (dialect : Dialect) (front : List Lexeme) (t : Lexeme) : Type 0 where
@@ -70,7 +71,7 @@ pub data WouldGoOn (dialect : Dialect) (front : List Lexeme) (t : Lexeme) : Synt
   extend : dialect ≡ Proto3 Refuse → is_word (codes "extend") t ≡ true
       → GoesOn max_message_depth (Proto3 Skip) (front ++ t ∷ [])
       → WouldGoOn dialect front t (Extend t.span.start)
-  two_packages : {tree : File} → is_word (codes "package") t ≡ true → IsFile dialect front tree
+  two_packages : (tree : File) → is_word (codes "package") t ≡ true → DerivesWithin max_message_depth dialect front tree
       → is_some tree.package_name ≡ true → WouldGoOn dialect front t (TwoPackages t.span.start)
   import_escape : (plain : Lexeme) → of_kind StringLiteral t ≡ true → is_plain_literal t ≡ false
       → is_plain_literal plain ≡ true → GoesOn max_message_depth dialect (front ++ plain ∷ [])
@@ -96,7 +97,7 @@ pub data IsRefused (dialect : Dialect) (tokens : List Lexeme) (end : ℕ) : Synt
       → IsRefused dialect tokens end (Grammar t.span.start)
   -- more tokens are missing
   missing : NamesAVersion dialect tokens → GoesOn max_message_depth dialect tokens
-      → ((tree : File) → IsFile dialect tokens tree → ⊥)
+      → ((tree : File) → DerivesWithin max_message_depth dialect tokens tree → ⊥)
       → IsRefused dialect tokens end (Grammar end)
 
 -- The tokens of the text have the fault. They have at most one.

@@ -4,18 +4,6 @@
 // From the tokens of a text to its tree.
 mod parsing;
 
-// Statements of a file.
-mod enums;
-mod files;
-mod messages;
-mod passed;
-mod services;
-mod syntax;
-
-// What they share.
-mod fitting;
-mod statement;
-
 // The laws.
 mod laws;
 
@@ -24,10 +12,10 @@ pub use laws::{
     one_tree, proto3_among_all, proto3_without_extend_among_all, skipped_options_are_no_fault,
     spans_in_order, spans_of_tokens,
 };
-pub use messages::MAX_MESSAGE_DEPTH;
 pub use parsing::{parse, parse_with};
 pub use proto_grammar::{
     Block, CustomOptions, Dialect, Enum, Field, FieldType, File, FileItem, Group, Head, Heading,
     Import, ImportKind, Item, Label, Leaf, MapField, Method, Service, Syntax, SyntaxFault,
     TypeName,
 };
+pub use proto_steps::MAX_MESSAGE_DEPTH;

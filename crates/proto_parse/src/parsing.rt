@@ -8,9 +8,9 @@ ghost use Rattle.proto_grammar.specs.declared.dialect.CustomOptions.TheVariants.
 ghost use Rattle.proto_grammar.specs.declared.dialect.Dialect.TheVariants.{Proto3};
 ghost use Rattle.proto_grammar.specs.declared.fault.SyntaxFault.TheVariants.{Memory};
 
-use crate::files::file;
 use proto_grammar::{CustomOptions, Dialect, File, Parser, SyntaxFault};
 use proto_lex::Tokens;
+use proto_steps::file;
 use std::alloc::Global;
 
 /// The tree that the tokens derive where only proto3 is accepted and custom options are refused.

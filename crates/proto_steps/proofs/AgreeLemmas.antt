@@ -83,7 +83,7 @@ module _ {S : Type 0} (goes : Lexeme → Bool) (ends : List Lexeme → Bool) (st
     pub turns_agree : (s : S) (place : Place) → run (While goes step s) place ≡ until_at ends old s place
     turns_agree s place = turns_by-agree (suc (length place.left)) s place (omega arith)
 
-twice : (b : Bool) → b ≡ not (not b)
+pub twice : (b : Bool) → b ≡ not (not b)
 twice true = refl
 twice false = refl
 
@@ -205,7 +205,7 @@ unfolding run type_name type_name_at
 type_name_agrees place = bind_agree (leading_dot_agrees place) dotted_agrees
 
 -- without its value
-abbrev forgotten : {A : Type 0} → A × Place → Result (Unit {0} × Place) SyntaxFault
+abbrev pub forgotten : {A : Type 0} → A × Place → Result (Unit {0} × Place) SyntaxFault
 forgotten x = Ok (tt, x.1)
 
 pass_dotted_agrees : (dot : Option Span × Place)
@@ -229,7 +229,7 @@ named_type_agrees place = rw (type_name_agrees place) refl
 -- ---- options
 
 -- up to and with a sign
-abbrev then_sign : TokenKind → Unit {0} × Place → Result (Unit {0} × Place) SyntaxFault
+abbrev pub then_sign : TokenKind → Unit {0} × Place → Result (Unit {0} × Place) SyntaxFault
 then_sign kind x = and_then (token_that (of_kind kind) x.1) forgotten
 
 closed_name_agrees : (x : Span × Place) → and_then (run (passed type_name) x.1) (then_sign CloseParenthesis)
@@ -315,7 +315,7 @@ given_agrees : (custom : CustomOptions) (x : Unit {0} × Place)
     ≡ and_then (token_that (of_kind Equals) x.1) (λ y. constant_at custom y.1)
 given_agrees custom x = same_bind {A = Span × Place} _ _ _ (λ y. constant_agrees custom y.1)
 
-setting_agrees : (custom : CustomOptions) (place : Place) → run (setting custom) place ≡ setting_at custom place
+pub setting_agrees : (custom : CustomOptions) (place : Place) → run (setting custom) place ≡ setting_at custom place
 unfolding run setting setting_at
 setting_agrees custom place = bind_agree (option_name_agrees custom place) (given_agrees custom)
 

@@ -15,4 +15,10 @@ pub mod AmongFileLemmas
 pub mod LoopLemmas
 -- The grammar beside the parser's functions on tokens
 pub mod AgreeLemmas
+pub mod AgreeFieldLemmas
+pub mod ChoiceLemmas
+pub mod EnumLemmas
+pub mod FileLemmas
+pub mod JoinedLemmas
+pub mod MessageLemmas
 pub mod ServiceLemmas

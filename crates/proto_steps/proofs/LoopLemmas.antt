@@ -83,3 +83,20 @@ pub passing_stops : (goes : Lexeme → Bool) (item : Step (Unit {0})) (place : P
 passing_stops goes item place total custom fault test is goes_on fails so_far =
     Fails-of custom fault (run item place) total
     (λ met none. sym so_far ∙ broken goes (passing item) tt place met (sym is ∙ goes_on) none) fails
+
+-- ---- a loop that changes what it has
+
+pub steps_on : {S : Type 0} (goes : Lexeme → Bool) (step : S → Step S) (s t : S) (place after : Place)
+    (total : Result (S × Place) SyntaxFault) (test : Bool) → test ≡ first_is goes place.left → test ≡ true
+    → run (step s) place ≡ Ok (t, after) → length after.left < length place.left
+    → run (While goes step s) place ≡ total → run (While goes step t) after ≡ total
+steps_on goes step s t place after total test is goes_on e less so_far =
+    sym (turned goes step s t place after (sym is ∙ goes_on) e less) ∙ so_far
+
+pub stepping_stops : {S : Type 0} (goes : Lexeme → Bool) (step : S → Step S) (s : S) (place : Place)
+    (total : Result (S × Place) SyntaxFault) (custom : CustomOptions) (fault : SyntaxFault) (test : Bool)
+    → test ≡ first_is goes place.left → test ≡ true → Fails custom fault (run (step s) place)
+    → run (While goes step s) place ≡ total → Fails custom fault total
+stepping_stops goes step s place total custom fault test is goes_on fails so_far =
+    Fails-of custom fault (run (step s) place) total
+    (λ met none. sym so_far ∙ broken goes step s place met (sym is ∙ goes_on) none) fails

@@ -15,7 +15,7 @@ use Rattle.proto_steps.specs.Grammar.Parts.{aggregate, signed, constant, setting
 use Rattle.proto_steps.specs.Grammar.Parts.{option_statement, bracketed, options, numbered, typed, required, label}
 use Rattle.proto_steps.specs.Grammar.Parts.{group_head, map_field, integer, range_end, range, reserved_item, comma_item}
 use Rattle.proto_steps.specs.Grammar.Parts.{comma_items, reserved_items, reserved, extensions}
-use Rattle.proto_steps.specs.Grammar.Definitions.{heading, value, enum_item, enum_items, enum}
+use Rattle.proto_steps.specs.Grammar.Definitions.{heading, value, enum_item, enum_items, enumeration}
 use Rattle.proto_steps.proofs.FinishLemmas.{Steady, Unseen}
 use Rattle.proto_steps.proofs.SteadyLemmas.{type_name_steady, strings_steady, setting_steady, option_statement_steady}
 
@@ -165,10 +165,10 @@ unfolding enum_item option_statement reserved value reserved_items comma_items r
     setting option_name part constant
 enum_item_unseen custom = search depth 40
 
-pub enum_steady : (custom : CustomOptions) → Steady (enum custom)
-unfolding enum heading enum_items
+pub enum_steady : (custom : CustomOptions) → Steady (enumeration custom)
+unfolding enumeration heading enum_items
 enum_steady custom = search (enum_item_steady, enum_item_unseen) depth 40
 
-pub enum_unseen : (custom : CustomOptions) → Unseen (enum custom) (like CloseBrace [])
-unfolding enum heading enum_items
+pub enum_unseen : (custom : CustomOptions) → Unseen (enumeration custom) (like CloseBrace [])
+unfolding enumeration heading enum_items
 enum_unseen custom = search depth 40

@@ -4,3 +4,7 @@ pub mod Lawful
 -- The grammar
 pub mod Terminals
 pub mod Grammar
+-- What functions do
+pub mod Choice
+pub mod Limits
+pub mod Version

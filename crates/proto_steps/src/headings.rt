@@ -6,12 +6,10 @@ ghost use Rattle.proto_grammar.specs.Terminal.{first_is};
 ghost use Rattle.proto_grammar.specs.declared.dialect.CustomOptions.TheVariants.{Skip};
 ghost use Rattle.proto_steps.specs.Step.{run};
 ghost use Rattle.proto_steps.specs.Terminals.{is_inside as is_not_closing};
-ghost use Rattle.proto_steps.specs.Grammar.Parts.{named_type as named_type_step, option_statement as option_step};
 ghost use Rattle.proto_steps.specs.Grammar.Definitions.{heading as heading_step};
 
-use proto_grammar::{CustomOptions, Heading, Parser, SyntaxFault, TypeName};
+use proto_grammar::{Heading, Parser, SyntaxFault};
 use proto_lex::TokenKind;
-use std::alloc::Global;
 
 /// Whether a token other than `}` is next.
 pub(crate) fn is_inside(parser: &Parser<'_>) -> bool
@@ -36,18 +34,4 @@ pub(crate) fn heading(parser: &mut Parser<'_>, word: &str) -> Result<Heading, Sy
         name,
         closing,
     })
-}
-
-/// A type's name. The word of a scalar type may not be there.
-pub(crate) fn named_type(parser: &mut Parser<'_>, alloc: Global) -> Result<TypeName, SyntaxFault>
-    ensures { Gives Skip (λ x. x) parser.new result (run named_type_step parser.old) }
-{
-    parser.named_type(alloc)
-}
-
-/// An option.
-pub(crate) fn option(parser: &mut Parser<'_>, custom: CustomOptions) -> Result<(), SyntaxFault>
-    ensures { Gives custom (λ x. x) parser.new result (run (option_step custom) parser.old) }
-{
-    parser.option(custom)
 }

@@ -1,8 +1,14 @@
 //! Laws of the whole grammar.
 
-ghost use Rattle.std.specs.Prelude.{ℕ};
+ghost use Rattle.std.specs.Prelude.{◌≡◌, ℕ, false, List, codes};
+ghost use Rattle.std.specs.List.{list_any};
 ghost use Rattle.proto_grammar.specs.declared.dialect.CustomOptions.{CustomOptions};
-ghost use Rattle.proto_grammar.specs.declared.dialect.CustomOptions.TheVariants.{Refuse};
+ghost use Rattle.proto_grammar.specs.Lexeme.{Lexeme};
+ghost use Rattle.proto_grammar.specs.Terminal.{is_word};
+ghost use Rattle.proto_grammar.specs.declared.tree.File.{File};
+ghost use Rattle.proto_grammar.specs.declared.dialect.CustomOptions.TheVariants.{Refuse, Skip};
+ghost use Rattle.proto_grammar.specs.declared.dialect.Dialect.TheVariants as dialects;
+ghost use Rattle.proto_steps.specs.Step.{Derives};
 ghost use Rattle.proto_grammar.specs.declared.dialect.Syntax.TheVariants.{Proto3, Extended};
 ghost use Rattle.proto_grammar.specs.declared.dialect.Dialect.{Dialect};
 ghost use Rattle.proto_grammar.specs.declared.dialect.Syntax.{Syntax};
@@ -33,4 +39,12 @@ pub fn fronts_go_on()
 /// Statements that derive where only proto3 without custom options is accepted, derive where all sources are, too.
 pub fn statements_among_all()
     ensures { (levels : ℕ) → DerivesAmong (file_statements levels (Proto3 Refuse)) (file_statements levels Extended) }
+{}
+
+/// A file that derives where only proto3 is accepted, derives where all sources are, too, if custom options are
+/// refused, or no token is the word `extend`.
+pub fn files_among_all()
+    ensures refused { (levels : ℕ) → DerivesAmong (file levels (dialects.Proto3 Refuse)) (file levels dialects.All) }
+    ensures skipped { (levels : ℕ) (a b : List Lexeme) (x : File) → list_any (is_word (codes "extend")) a ≡ false
+        → Derives (file levels (dialects.Proto3 Skip)) a x b → Derives (file levels dialects.All) a x b }
 {}

@@ -5,12 +5,25 @@
 #![tactic(auto)]
 
 // What is read by the grammar.
+mod enums;
+mod files;
 mod fitting;
 mod headings;
+mod messages;
+mod parts;
+mod passed;
 mod services;
+mod statement;
+mod syntax;
 
 // The laws.
 mod laws;
 
-pub use laws::{derives_or_refused, first_fault, fronts_go_on, one_reading, statements_among_all};
+pub use files::file;
+pub use laws::{
+    derives_or_refused, files_among_all, first_fault, fronts_go_on, one_reading,
+    statements_among_all,
+};
+pub use messages::MAX_MESSAGE_DEPTH;
 pub use services::service;
+pub use statement::{FileStatement, MessageStatement, Version, Within};

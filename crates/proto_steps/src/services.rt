@@ -7,7 +7,8 @@ ghost use Rattle.proto_steps.specs.Step.{run};
 ghost use Rattle.proto_steps.specs.Grammar.Definitions as grammar;
 
 use crate::fitting::fitted;
-use crate::headings::{heading, is_inside, named_type, option};
+use crate::headings::{heading, is_inside};
+use crate::parts::{named_type, option};
 use basics::Sequence;
 use proto_grammar::{CustomOptions, Heading, Method, Parser, Service, SyntaxFault, TypeName, keep};
 use proto_lex::{Span, TokenKind};

@@ -1,5 +1,5 @@
 -- What is in the grammar is read: files.
-use Rattle.std.proofs.Common.{◌≡◌, ℕ, true, Option, Some, List, refl, sym, ◌∙◌, ap, subst, codes}
+use Rattle.std.proofs.Common.{◌≡◌, ℕ, true, Option, Some, List, refl, sym, ◌∙◌, ap, codes}
 use Rattle.std.specs.Prelude.{Result, Ok, Err, MatchResult}
 use Rattle.proto_lex.specs.declared.span.Span.{Span}
 use Rattle.proto_lex.specs.declared.token.TokenKind.TheVariants.{StringLiteral}
@@ -12,47 +12,34 @@ use Rattle.proto_grammar.specs.declared.tree.ImportKind.{ImportKind}
 use Rattle.proto_grammar.specs.declared.tree.File.{File}
 use Rattle.proto_grammar.specs.declared.fault.SyntaxFault.{SyntaxFault}
 use Rattle.proto_grammar.specs.declared.fault.SyntaxFault.TheVariants.{Memory}
-use Rattle.proto_parse.specs.declared.statement.FileStatement.{FileStatement}
-use Rattle.proto_parse.specs.declared.statement.FileStatement.TheVariants as choice
-use Rattle.proto_parse.specs.declared.statement.Version.{Version}
-use Rattle.proto_parse.specs.declared.statement.Version.TheVariants as version
+use Rattle.proto_steps.specs.declared.statement.Version.{Version}
+use Rattle.proto_steps.specs.declared.statement.Version.TheVariants as version
 use Rattle.proto_grammar.specs.Lexeme.{Lexeme}
-use Rattle.proto_parse.specs.Limits.{max_message_depth}
+use Rattle.proto_steps.specs.Limits.{max_message_depth}
 use Rattle.proto_grammar.specs.Gives.{Fails, Gives}
-use Rattle.proto_grammar.specs.Terminal.{not_next, is_end}
+use Rattle.proto_grammar.specs.Terminal.{not_next}
 use Rattle.proto_grammar.specs.Syntax.{custom_in, proto3_in}
-use Rattle.proto_parse.specs.Reading.Choice.{file_statement_of, version_of}
+use Rattle.proto_steps.specs.Version.{version_of}
 use Rattle.proto_grammar.specs.Grammar.Repetition.{Adds}
-use Rattle.proto_parse.specs.Grammar.Messages.{IsInside}
 use Rattle.proto_parse.specs.Grammar.Files.{SpellsJoined, IsSyntax, IsImportKind, IsPathLiteral, IsImport, IsPackage}
-use Rattle.proto_parse.specs.Grammar.Files.{IsStatement, IsFileWithin, IsFile}
 use Rattle.proto_parse.specs.Grammar.Files.SpellsJoined.{none, some}
 use Rattle.proto_parse.specs.Grammar.Files.IsSyntax.{proto3, proto2, no_statement}
 use Rattle.proto_parse.specs.Grammar.Files.IsImportKind.{weak, public, neither}
 use Rattle.proto_parse.specs.Grammar.Files.IsPathLiteral.{path_literal}
 use Rattle.proto_parse.specs.Grammar.Files.IsImport.{import}
 use Rattle.proto_parse.specs.Grammar.Files.IsPackage.{package_statement}
-use Rattle.proto_parse.specs.Grammar.Files.IsStatement.{empty as statements-empty, import as statements-import}
-use Rattle.proto_parse.specs.Grammar.Files.IsStatement.{package_statement as statements-package_statement}
-use Rattle.proto_parse.specs.Grammar.Files.IsStatement.{option as statements-option, message as statements-message}
-use Rattle.proto_parse.specs.Grammar.Files.IsStatement.{enum as statements-enum, service as statements-service}
-use Rattle.proto_parse.specs.Grammar.Files.IsStatement.{extend as statements-extend}
-use Rattle.proto_parse.specs.Grammar.Files.IsFileWithin.{file}
 use Rattle.proto_grammar.specs.Reading.Repetition.{adding}
-use Rattle.proto_parse.specs.Reading.Messages.{inside_at}
-use Rattle.proto_parse.specs.Reading.Syntax.{syntax_by, version_at, syntax_statement_at, syntax_at}
-use Rattle.proto_parse.specs.Reading.Files.{import_kind_at, path_literal_at, path_literals_at, import_at, package_at}
-use Rattle.proto_parse.specs.Reading.Files.{only_package_at, statement_by, statement_at, statements_at, file_at}
+use Rattle.proto_steps.specs.Version.{syntax_by, version_at}
+use Rattle.proto_parse.proofs.Reading.Syntax.{syntax_statement_at, syntax_at}
+use Rattle.proto_parse.proofs.Reading.Files.{import_kind_at, path_literal_at, path_literals_at, import_at, package_at}
+use Rattle.proto_parse.proofs.Reading.Files.{file_at}
 use Rattle.proto_grammar.proofs.TerminalTokenLemmas.{token_exact, one_next, one_others, next_other_word}
 use Rattle.proto_grammar.proofs.RepetitionUntilLemmas.{until_at-exact, adding-exact}
 use Rattle.proto_parse.proofs.SyntaxJoinedLemmas.{joined_exact}
-use Rattle.proto_parse.proofs.Choices.{file_word, import_begins, package_begins, option_begins, message_begins}
-use Rattle.proto_parse.proofs.Choices.{enum_begins, service_begins, extend_begins}
-use Rattle.proto_parse.proofs.ReadingFallLemmas.{items_fall, path_literals_fall, statements_fall}
+use Rattle.proto_parse.proofs.ReadingFallLemmas.{path_literals_fall}
 use Rattle.proto_grammar.proofs.Exact.Names.{name_exact}
-use Rattle.proto_grammar.proofs.Exact.Options.{option_exact}
-use Rattle.proto_parse.proofs.Exact.Messages.{enum_exact, extend_statement_exact, inside_exact, message_exact}
-use Rattle.proto_parse.proofs.Exact.Messages.{service_exact}
+use Rattle.proto_parse.specs.Derives.{DerivesWithin}
+use Rattle.proto_parse.proofs.Agreement.Files.{file_exact}
 use Rattle.std.proofs.Common.{None}
 use Rattle.proto_grammar.proofs.TerminalTokenLemmas.{plain_exact}
 use Rattle.proto_grammar.proofs.RepetitionStepLemmas.{same_ok}
@@ -97,7 +84,7 @@ module _ (end : ℕ) where
       ) refl
   syntax_exact (no_statement p q) = rw (p, q) refl
 
-  import_kind_exact : {a b : List Lexeme} {x : ImportKind} → IsImportKind a x b
+  pub import_kind_exact : {a b : List Lexeme} {x : ImportKind} → IsImportKind a x b
       → import_kind_at (place_of end a) ≡ Ok (x, place_of end b)
   unfolding import_kind_at
   import_kind_exact (weak w) = rw (one_next w, one_others w) refl
@@ -110,7 +97,8 @@ module _ (end : ℕ) where
   unfolding path_literal_at
   path_literal_exact a b x (path_literal l) = rw (plain_exact end l) refl
 
-  import_exact : {a b : List Lexeme} {x : Import} → IsImport a x b → import_at (place_of end a) ≡ Ok (x, place_of end b)
+  pub import_exact : {a b : List Lexeme} {x : Import} → IsImport a x b → import_at (place_of end a) ≡ Ok
+      (x, place_of end b)
   unfolding import_at path_literals_at
   import_exact (import k i l u s) =
       rw (
@@ -122,80 +110,33 @@ module _ (end : ℕ) where
         token_exact end s,
       ) refl
 
-  package_exact : {a b : List Lexeme} {x : List Span} → IsPackage a x b
+  pub package_exact : {a b : List Lexeme} {x : List Span} → IsPackage a x b
       → package_at (place_of end a) ≡ Ok (x, place_of end b)
   unfolding package_at
   package_exact (package_statement k n s) = rw (token_exact end k, name_exact end n, token_exact end s) refl
 
-  -- the statement that is chosen
-  by_choice : (levels : ℕ) (syntax : Syntax) (f g : File) (a b : List Lexeme) (statement : FileStatement)
-      → file_statement_of a ≡ statement
-      → statement_by levels statement syntax f (place_of end a) ≡ Ok (g, place_of end b)
-      → statement_at levels syntax f (place_of end a) ≡ Ok (g, place_of end b)
-  unfolding statement_at
-  by_choice levels syntax f g a b statement is read = subst
-      (λ s. statement_by levels s syntax f (place_of end a) ≡ Ok (g, place_of end b)) (sym is) read
-
-  statement_exact : (levels : ℕ) (syntax : Syntax) (f g : File) (a b : List Lexeme) → IsStatement levels syntax f a g b
-      → statement_at levels syntax f (place_of end a) ≡ Ok (g, place_of end b)
-  unfolding only_package_at
-  statement_exact levels syntax f g a b (statements-empty s) =
-      by_choice levels syntax f g a b choice.Empty (rw (one_next s) refl) (rw (token_exact end s) refl)
-  statement_exact levels syntax f g a b (statements-import i) =
-      by_choice levels syntax f g a b choice.Import (file_word (codes "import") a (import_begins i))
-      (rw (import_exact i) refl)
-  statement_exact levels syntax f g a b (statements-package_statement none_yet p) =
-      by_choice levels syntax f g a b choice.Package (file_word (codes "package") a (package_begins p))
-      (rw (none_yet, package_exact p) refl)
-  statement_exact levels syntax f g a b (statements-option o) =
-      by_choice levels syntax f g a b choice.Option (file_word (codes "option") a (option_begins o))
-      (rw (option_exact end o) refl)
-  statement_exact levels syntax f g a b (statements-message m i) =
-      by_choice levels syntax f g a b choice.Message (file_word (codes "message") a (message_begins m i))
-      (rw (message_exact end (inside_at syntax levels) (IsInside syntax levels)
-      (inside_exact end syntax levels) a b m i) refl)
-  statement_exact levels syntax f g a b (statements-enum e) =
-      by_choice levels syntax f g a b choice.Enum (file_word (codes "enum") a (enum_begins e))
-      (rw (enum_exact end e) refl)
-  statement_exact levels syntax f g a b (statements-service s) =
-      by_choice levels syntax f g a b choice.Service (file_word (codes "service") a (service_begins s))
-      (rw (service_exact end s) refl)
-  statement_exact levels syntax f g a b (statements-extend {extend = x} e) =
-      by_choice levels syntax f g a b choice.Extend (file_word (codes "extend") a (extend_begins x e))
-      (rw (extend_statement_exact end syntax (inside_at syntax levels) (IsInside syntax levels)
-      (inside_exact end syntax levels) (λ place. items_fall place syntax levels) a b x e) refl)
-
-  -- what is left behind the last statement
-  pub file_exact : {levels : ℕ} {dialect : Dialect} {a : List Lexeme} {x : File} → IsFileWithin levels dialect a x
-      → (b : List Lexeme) × (file_at levels dialect (place_of end a) ≡ Ok (x, place_of end b))
-  unfolding file_at statements_at
-  file_exact {levels} {dialect} {a} {x} (file {c = c} {syntax = syntax} s u) =
-      let read : file_at levels dialect (place_of end a) ≡ Ok (x, place_of end c) =
-      rw (syntax_exact s) (until_at-exact end is_end (statement_at levels syntax) (IsStatement levels syntax)
-      (statements_fall levels syntax)
-      (statement_exact levels syntax) u) in
-      (c, read)
-
 -- tokens derive at most one tree
-pub same_tree : {dialect : Dialect} {a : List Lexeme} (tree other : File) → IsFile dialect a tree
-    → IsFile dialect a other → tree ≡ other
-same_tree tree other d e =
-    let x = file_exact 0 d in
-    let y = file_exact 0 e in
+pub same_tree : (dialect : Dialect) (a : List Lexeme) (tree other : File)
+    → DerivesWithin max_message_depth dialect a tree → DerivesWithin max_message_depth dialect a other → tree ≡ other
+same_tree dialect a tree other d e =
+    let x = file_exact 0 max_message_depth dialect a tree d in
+    let y = file_exact 0 max_message_depth dialect a other e in
     ap (λ (z : File × Place). z.0) (same_ok (tree, place_of 0 x.0) (other, place_of 0 y.0) (sym x.1 ∙ y.1))
 
 -- where a tree derives, a fault is want of memory
-pub only_memory : (end : ℕ) {dialect : Dialect} {a : List Lexeme} {tree : File} → (fault : SyntaxFault)
-    → Fails (custom_in dialect) fault (file_at max_message_depth dialect (place_of end a)) → IsFile dialect a tree
-    → fault ≡ Memory
-only_memory end Memory fails d = refl
-only_memory end fault fails d = let read = (file_exact end d).1 in cc
+pub only_memory : (end : ℕ) (dialect : Dialect) (a : List Lexeme) (tree : File) (fault : SyntaxFault)
+    → Fails (custom_in dialect) fault (file_at max_message_depth dialect (place_of end a))
+    → DerivesWithin max_message_depth dialect a tree → fault ≡ Memory
+only_memory end dialect a tree Memory fails d = refl
+only_memory end dialect a tree fault fails d =
+    let read = (file_exact end max_message_depth dialect a tree d).1 in cc
 
 -- of what the parser gives
 pub file_of_exact : (dialect : Dialect) (tokens rest : Place) (result : Result File SyntaxFault)
     → Gives (custom_in dialect) (λ x. x) rest result (file_at max_message_depth dialect tokens)
-    → (tree : File) → IsFile dialect tokens.left tree → MatchResult result (λ f. f ≡ tree) (λ fault. fault ≡ Memory)
+    → (tree : File) → DerivesWithin max_message_depth dialect tokens.left tree
+    → MatchResult result (λ f. f ≡ tree) (λ fault. fault ≡ Memory)
 file_of_exact dialect tokens rest (Ok f) e tree d =
-    let read = file_exact tokens.end d in
+    let read = file_exact tokens.end max_message_depth dialect tokens.left tree d in
     ap (λ (z : File × Place). z.0) (same_ok (f, rest) (tree, place_of tokens.end read.0) (sym e ∙ read.1))
-file_of_exact dialect tokens rest (Err fault) e tree d = only_memory tokens.end fault e d
+file_of_exact dialect tokens rest (Err fault) e tree d = only_memory tokens.end dialect tokens.left tree fault e d

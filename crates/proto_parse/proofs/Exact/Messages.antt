@@ -13,14 +13,14 @@ use Rattle.proto_grammar.specs.declared.tree.Enum.{Enum}
 use Rattle.proto_grammar.specs.declared.tree.Method.{Method}
 use Rattle.proto_grammar.specs.declared.tree.Service.{Service}
 use Rattle.proto_grammar.specs.declared.tree.Item.{Item}
-use Rattle.proto_parse.specs.declared.statement.MessageStatement.{MessageStatement}
-use Rattle.proto_parse.specs.declared.statement.MessageStatement.TheVariants as choice
-use Rattle.proto_parse.specs.declared.statement.Within.{Within}
-use Rattle.proto_parse.specs.declared.statement.Within.TheVariants as within
+use Rattle.proto_steps.specs.declared.statement.MessageStatement.{MessageStatement}
+use Rattle.proto_steps.specs.declared.statement.MessageStatement.TheVariants as choice
+use Rattle.proto_steps.specs.declared.statement.Within.{Within}
+use Rattle.proto_steps.specs.declared.statement.Within.TheVariants as within
 use Rattle.proto_grammar.specs.Lexeme.{Lexeme}
 use Rattle.proto_grammar.specs.Terminal.{first_is, of_kind, is_word, closes}
 use Rattle.proto_grammar.specs.Syntax.{custom_of}
-use Rattle.proto_parse.specs.Reading.Choice.{message_statement_of}
+use Rattle.proto_steps.specs.Choice.{message_statement_of}
 use Rattle.proto_grammar.specs.Grammar.Repetition.{Passes, Adds}
 use Rattle.proto_parse.specs.Grammar.Messages.{IsHeading, IsValue, IsEnumItem, IsEnum, IsBraced, IsGroup, IsLabelled}
 use Rattle.proto_parse.specs.Grammar.Messages.{IsMember, IsOneofMember, IsOneofItem, IsOneof, IsExtendItem, IsExtend}
@@ -61,14 +61,15 @@ use Rattle.proto_parse.specs.Grammar.Services.IsServiceItem.{empty as services-e
 use Rattle.proto_parse.specs.Grammar.Services.IsServiceItem.{method as services-method}
 use Rattle.proto_parse.specs.Grammar.Services.IsService.{service}
 use Rattle.proto_grammar.specs.Reading.Repetition.{Read, span_at, adding, passing}
-use Rattle.proto_parse.specs.Reading.Messages.{heading_at, value_at, enum_item_at, enum_items_at, enum_at, braced_at}
-use Rattle.proto_parse.specs.Reading.Messages.{group_at, labelled_at, member_at, oneof_member_at, oneof_item_at}
-use Rattle.proto_parse.specs.Reading.Messages.{extend_item_at, oneof_at, extend_at, passed_item_at, passed_items_at}
-use Rattle.proto_parse.specs.Reading.Messages.{passed_extend_at, extend_statement_at, message_at, ranges_at}
-use Rattle.proto_parse.specs.Reading.Messages.{message_item_by, message_item_at, item_at, inside_at}
-use Rattle.proto_parse.specs.Reading.Services.{stream_at, method_type_at, method_item_at, method_items_at}
-use Rattle.proto_parse.specs.Reading.Services.{method_body_at, method_end_at, method_at, service_item_at}
-use Rattle.proto_parse.specs.Reading.Services.{service_items_at, service_at}
+use Rattle.proto_parse.proofs.Reading.Messages.{braced_at}
+use Rattle.proto_parse.proofs.Reading.Messages.{group_at, labelled_at, member_at, oneof_member_at, oneof_item_at}
+use Rattle.proto_parse.proofs.Reading.Messages.{extend_item_at, oneof_at, extend_at, passed_item_at, passed_items_at}
+use Rattle.proto_parse.proofs.Reading.Messages.{passed_extend_at, extend_statement_at, message_at, ranges_at}
+use Rattle.proto_parse.proofs.Reading.Messages.{message_item_by, message_item_at, item_at, inside_at}
+use Rattle.proto_parse.proofs.Reading.Enums.{heading_at, enum_at, value_at, enum_item_at, enum_items_at}
+use Rattle.proto_parse.proofs.Reading.Services.{stream_at, method_type_at, method_item_at, method_items_at}
+use Rattle.proto_parse.proofs.Reading.Services.{method_body_at, method_end_at, method_at, service_item_at}
+use Rattle.proto_parse.proofs.Reading.Services.{service_items_at, service_at}
 use Rattle.proto_grammar.proofs.TerminalTokenLemmas.{token_exact, one_next, one_others, next_other_kind, next_word_kind}
 use Rattle.proto_grammar.proofs.TerminalTokenLemmas.{next_other_word}
 use Rattle.proto_grammar.proofs.RepetitionUntilLemmas.{until_at-exact, adding-exact, passing-exact, Falls}
@@ -81,7 +82,7 @@ use Rattle.proto_grammar.proofs.Exact.Names.{named_type_exact, pass_type_name_ex
 use Rattle.proto_grammar.proofs.Exact.Options.{option_exact, options_exact}
 use Rattle.proto_grammar.proofs.Exact.Fields.{typed_exact, label_exact, group_head_exact, map_field_exact}
 use Rattle.proto_grammar.proofs.Exact.Fields.{pass_field_exact, integer_exact, reserved_exact, extensions_exact}
-use Rattle.proto_parse.specs.Reading.Messages.{Inside}
+use Rattle.proto_parse.proofs.Reading.Messages.{Inside}
 use Rattle.std.proofs.Common.{Ok}
 use Rattle.proto_grammar.specs.Lexeme.{place_of}
 
@@ -232,7 +233,7 @@ module _ (end : ℕ) where
   passed_item_exact a b (passes-empty s) = rw (one_next s, one_others s) refl
   passed_item_exact a b (passes-field p f) = rw p (pass_field_exact end f)
 
-  passed_extend_exact : {custom : CustomOptions} {a b : List Lexeme} → IsPassedExtend custom a b
+  pub passed_extend_exact : {custom : CustomOptions} {a b : List Lexeme} → IsPassedExtend custom a b
       → passed_extend_at custom (place_of end a) ≡ Ok (tt, place_of end b)
   unfolding passed_extend_at passed_items_at
   passed_extend_exact (passed_extend k n o u c) =
@@ -325,7 +326,7 @@ module _ (end : ℕ) where
   method_type_exact (method_type o s not n c) =
       rw (token_exact end o, stream_exact s, named_type_exact end not n, token_exact end c) refl
 
-  method_item_exact : (custom : CustomOptions) (a b : List Lexeme) → IsMethodItem custom a b
+  pub method_item_exact : (custom : CustomOptions) (a b : List Lexeme) → IsMethodItem custom a b
       → method_item_at custom (place_of end a) ≡ Ok (tt, place_of end b)
   unfolding method_item_at
   method_item_exact custom a b (method_items-empty s) = rw (one_next s, one_others s) refl

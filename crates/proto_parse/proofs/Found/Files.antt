@@ -1,6 +1,6 @@
 -- What is read is in the grammar: files.
-use Rattle.std.proofs.Common.{◌≡◌, ℕ, true, false, ◌&&◌, not, cond, Option, Some, None, is_some, ◌⊎◌, inl, inr, List}
-use Rattle.std.proofs.Common.{[], ◌∷◌, refl, sym, ◌∙◌, subst, codes, bytes_eq}
+use Rattle.std.proofs.Common.{◌≡◌, ℕ, false, ◌&&◌, not, cond, Option, Some, None, is_some, ◌⊎◌, inl, inr, List}
+use Rattle.std.proofs.Common.{[], ◌∷◌, refl, sym, subst, codes, bytes_eq}
 use Rattle.std.specs.Prelude.{Result, Ok, Err, IfOk}
 use Rattle.proto_grammar.specs.declared.fault.SyntaxFault.{SyntaxFault}
 use Rattle.proto_grammar.specs.declared.fault.SyntaxFault.TheVariants.{NotProto3, Grammar}
@@ -15,18 +15,19 @@ use Rattle.proto_lex.specs.declared.token.TokenKind.TheVariants.{StringLiteral, 
 use Rattle.proto_grammar.specs.declared.tree.Import.{Import}
 use Rattle.proto_grammar.specs.declared.tree.ImportKind.{ImportKind}
 use Rattle.proto_grammar.specs.declared.tree.File.{File}
-use Rattle.proto_parse.specs.declared.statement.FileStatement.{FileStatement}
-use Rattle.proto_parse.specs.declared.statement.FileStatement.TheVariants as choice
-use Rattle.proto_parse.specs.declared.statement.Version.TheVariants as version
+use Rattle.proto_steps.specs.declared.statement.FileStatement.{FileStatement}
+use Rattle.proto_steps.specs.declared.statement.FileStatement.TheVariants as choice
+use Rattle.proto_steps.specs.declared.statement.Version.TheVariants as version
 use Rattle.proto_grammar.specs.Lexeme.{Lexeme}
 use Rattle.proto_grammar.specs.Terminal.{first_is, of_kind, is_word, not_next, is_end}
 use Rattle.proto_grammar.specs.Syntax.{custom_of, custom_in, proto3_in, is_all}
-use Rattle.proto_parse.specs.Reading.Choice.{file_statement_of, version_of}
-use Rattle.proto_parse.specs.Limits.{max_message_depth}
+use Rattle.proto_steps.specs.Choice.{file_statement_of}
+use Rattle.proto_steps.specs.Version.{version_of}
+use Rattle.proto_steps.specs.Limits.{max_message_depth}
 use Rattle.proto_grammar.specs.Grammar.Repetition.{One, Adds}
 use Rattle.proto_parse.specs.Grammar.Messages.{IsInside}
 use Rattle.proto_parse.specs.Grammar.Files.{empty_file, SpellsJoined, IsSyntax, IsImportKind, IsPathLiteral, IsImport}
-use Rattle.proto_parse.specs.Grammar.Files.{IsPackage, IsStatement, IsFileWithin, IsFile}
+use Rattle.proto_parse.specs.Grammar.Files.{IsPackage, IsStatement, IsFileWithin}
 use Rattle.proto_parse.specs.Grammar.Files.IsSyntax.{proto3, proto2, no_statement}
 use Rattle.proto_parse.specs.Grammar.Files.IsImportKind.{weak, public, neither}
 use Rattle.proto_parse.specs.Grammar.Files.IsPathLiteral.{path_literal}
@@ -41,30 +42,34 @@ use Rattle.proto_parse.specs.Grammar.Files.IsFileWithin.{file}
 use Rattle.proto_grammar.specs.Reading.Repetition.{token_that, adding, until_at}
 use Rattle.proto_grammar.specs.Reading.Names.{name_at}
 use Rattle.proto_grammar.specs.Reading.Options.{option_at}
-use Rattle.proto_parse.specs.Reading.Messages.{enum_at, extend_statement_at, message_at, inside_at}
-use Rattle.proto_parse.specs.Reading.Services.{service_at}
-use Rattle.proto_parse.specs.Reading.Syntax.{joined_of, behind_literals, syntax_by, version_at, syntax_statement_at}
-use Rattle.proto_parse.specs.Reading.Syntax.{syntax_at}
-use Rattle.proto_parse.specs.Reading.Files.{import_kind_at, path_literal_at, path_literals_at, import_at, package_at}
-use Rattle.proto_parse.specs.Reading.Files.{only_package_at, statement_by, statement_at, statements_at, file_at}
+use Rattle.proto_parse.proofs.Reading.Enums.{enum_at}
+use Rattle.proto_parse.proofs.Reading.Messages.{extend_statement_at, message_at, inside_at}
+use Rattle.proto_parse.proofs.Reading.Services.{service_at}
+use Rattle.proto_steps.specs.Version.{joined_of, behind_literals, syntax_by, version_at}
+use Rattle.proto_parse.proofs.Reading.Syntax.{syntax_statement_at}
+use Rattle.proto_parse.proofs.Reading.Syntax.{syntax_at}
+use Rattle.proto_parse.proofs.Reading.Files.{import_kind_at, path_literal_at, path_literals_at, import_at, package_at}
+use Rattle.proto_parse.proofs.Reading.Files.{only_package_at, statement_by, statement_at, statements_at, file_at}
 use Rattle.proto_grammar.proofs.RepetitionStepLemmas.{same_ok, bind_ok, guard_ok, kept_ok}
 use Rattle.proto_lex.proofs.ReadingTestLemmas.{chosen}
 use Rattle.proto_grammar.proofs.TerminalTokenLemmas.{token_found, next_found}
 use Rattle.proto_grammar.proofs.RepetitionUntilLemmas.{until_at-found, adding-found}
 use Rattle.proto_grammar.proofs.Found.Names.{name_found}
 use Rattle.proto_grammar.proofs.Found.Options.{option_found}
+use Rattle.proto_parse.specs.Derives.{DerivesWithin}
+use Rattle.proto_parse.proofs.Agreement.Files.{file_found, file_exact}
 use Rattle.proto_parse.proofs.Found.Messages.{enum_found, extend_statement_found, inside_found, message_found}
 use Rattle.proto_parse.proofs.Found.Messages.{service_found}
 use Rattle.proto_parse.proofs.SyntaxJoinedLemmas.{joined_found}
 use Rattle.std.proofs.lemmas.Option.{same_Some}
-use Rattle.proto_parse.specs.Reading.Syntax.{past_literals}
+use Rattle.proto_steps.specs.Version.{past_literals}
 use Rattle.std.specs.Option.{option_map_or}
 use Rattle.std.proofs.lemmas.Bool.{not-true}
 use Rattle.proto_grammar.proofs.TerminalTokenLemmas.{plain_found}
 use Rattle.proto_grammar.proofs.RepetitionStepLemmas.{read_as}
 use Rattle.proto_grammar.specs.Reading.Repetition.{plain_literal_at}
 use Rattle.proto_grammar.specs.Terminal.{offset_at}
-use Rattle.proto_grammar.specs.Lexeme.{Place}
+use Rattle.proto_grammar.specs.Lexeme.{Place, place_of}
 
 -- the version that a text names
 pub version_text : {P : Type 0} (text : List ℕ) → (text ≡ codes "proto3" → version_of text ≡ version.Proto3 → P)
@@ -267,18 +272,25 @@ unfolding statement_at
 statement_found levels syntax f tokens x e =
     statement_by_found levels syntax f tokens x (file_statement_of tokens.left) e
 
-pub file_found : (levels : ℕ) (dialect : Dialect) (tokens : Place) (x : File × Place)
+pub relation_found : (levels : ℕ) (dialect : Dialect) (tokens : Place) (x : File × Place)
     → file_at levels dialect tokens ≡ Ok x → IsFileWithin levels dialect tokens.left x.0
 unfolding file_at statements_at
-file_found levels dialect tokens x e =
+relation_found levels dialect tokens x e =
     let s = bind_ok (syntax_at dialect tokens) _ x e in
     file (syntax_found dialect _ _ s.1)
     (until_at-found is_end (statement_at levels s.0.0) (IsStatement levels s.0.0)
     (statement_found levels s.0.0) empty_file s.0.1 x s.2)
 
+-- what derives by the grammar is in the relation
+pub as_relation : {levels : ℕ} {dialect : Dialect} {a : List Lexeme} {x : File} → DerivesWithin levels dialect a x
+    → IsFileWithin levels dialect a x
+as_relation {levels} {dialect} {a} {x} d =
+    let read = file_exact 0 levels dialect a x d in
+    relation_found levels dialect (place_of 0 a) (x, place_of 0 read.0) read.1
+
 -- of what the parser gives
 pub file_of_found : (dialect : Dialect) (tokens rest : Place) (result : Result File SyntaxFault)
     → Gives (custom_in dialect) (λ x. x) rest result (file_at max_message_depth dialect tokens)
-    → IfOk result (λ f. IsFile dialect tokens.left f)
+    → IfOk result (λ f. DerivesWithin max_message_depth dialect tokens.left f)
 file_of_found dialect tokens rest (Ok f) e = file_found max_message_depth dialect tokens (f, rest) e
 file_of_found dialect tokens rest (Err fault) e = tt

@@ -15,20 +15,18 @@ use Rattle.proto_grammar.specs.declared.tree.Enum.{Enum}
 use Rattle.proto_grammar.specs.declared.tree.Method.{Method}
 use Rattle.proto_grammar.specs.declared.tree.Service.{Service}
 use Rattle.proto_grammar.specs.declared.tree.Item.{Item}
-use Rattle.proto_parse.specs.declared.statement.MessageStatement.{MessageStatement}
-use Rattle.proto_parse.specs.declared.statement.MessageStatement.TheVariants as choice
-use Rattle.proto_parse.specs.declared.statement.Within.{Within}
-use Rattle.proto_parse.specs.declared.statement.Within.TheVariants as within
+use Rattle.proto_steps.specs.declared.statement.MessageStatement.{MessageStatement}
+use Rattle.proto_steps.specs.declared.statement.MessageStatement.TheVariants as choice
 use Rattle.proto_grammar.specs.Lexeme.{Lexeme}
 use Rattle.proto_grammar.specs.Terminal.{first_is, of_kind, is_word, closes, begins_group}
 use Rattle.proto_grammar.specs.Syntax.{custom_of, is_proto2}
-use Rattle.proto_parse.specs.Reading.Choice.{message_statement_of}
+use Rattle.proto_steps.specs.Choice.{message_statement_of}
 use Rattle.proto_grammar.specs.Tree.{BlockTree}
 use Rattle.proto_grammar.specs.Grammar.Repetition.{Passes, Adds}
 use Rattle.proto_parse.specs.Grammar.Messages.{IsHeading, IsValue, IsEnumItem, IsEnum, IsBraced, IsGroup, IsLabelled}
 use Rattle.proto_parse.specs.Grammar.Messages.{IsMember, IsOneofMember, IsOneofItem, IsOneof, IsExtendItem, IsExtend}
 use Rattle.proto_parse.specs.Grammar.Messages.{IsPassedItem, IsPassedExtend, IsExtendStatement, IsMessage}
-use Rattle.proto_parse.specs.Grammar.Messages.{IsMessageItem, IsItem, IsInside}
+use Rattle.proto_parse.specs.Grammar.Messages.{IsMessageItem, IsInside}
 use Rattle.proto_parse.specs.Grammar.Messages.IsHeading.{heading}
 use Rattle.proto_parse.specs.Grammar.Messages.IsValue.{value}
 use Rattle.proto_parse.specs.Grammar.Messages.IsEnumItem.{empty as enums-empty, option as enums-option}
@@ -68,14 +66,15 @@ use Rattle.proto_grammar.specs.Reading.Names.{named_type_at, pass_type_name_at}
 use Rattle.proto_grammar.specs.Reading.Options.{option_at, options_at}
 use Rattle.proto_grammar.specs.Reading.Fields.{typed_at, label_at, group_head_at, map_field_at}
 use Rattle.proto_grammar.specs.Reading.Reserved.{integer_at, reserved_at, extensions_at}
-use Rattle.proto_parse.specs.Reading.Messages.{heading_at, value_at, enum_item_at, enum_items_at, enum_at, braced_at}
-use Rattle.proto_parse.specs.Reading.Messages.{group_at, labelled_at, member_at, oneof_member_at, oneof_item_at}
-use Rattle.proto_parse.specs.Reading.Messages.{extend_item_at, oneof_at, extend_at, passed_item_at, passed_items_at}
-use Rattle.proto_parse.specs.Reading.Messages.{passed_extend_at, extend_statement_at, message_at, ranges_at}
-use Rattle.proto_parse.specs.Reading.Messages.{message_item_by, message_item_at, item_at, inside_at}
-use Rattle.proto_parse.specs.Reading.Services.{stream_at, method_type_at, method_item_at, method_items_at}
-use Rattle.proto_parse.specs.Reading.Services.{method_body_at, method_end_at, method_at, service_item_at}
-use Rattle.proto_parse.specs.Reading.Services.{service_items_at, service_at}
+use Rattle.proto_parse.proofs.Reading.Messages.{braced_at}
+use Rattle.proto_parse.proofs.Reading.Messages.{group_at, labelled_at, member_at, oneof_member_at, oneof_item_at}
+use Rattle.proto_parse.proofs.Reading.Messages.{extend_item_at, oneof_at, extend_at, passed_item_at, passed_items_at}
+use Rattle.proto_parse.proofs.Reading.Messages.{passed_extend_at, extend_statement_at, message_at, ranges_at}
+use Rattle.proto_parse.proofs.Reading.Messages.{message_item_by, message_item_at, inside_at}
+use Rattle.proto_parse.proofs.Reading.Enums.{heading_at, enum_at, value_at, enum_item_at, enum_items_at}
+use Rattle.proto_parse.proofs.Reading.Services.{stream_at, method_type_at, method_item_at, method_items_at}
+use Rattle.proto_parse.proofs.Reading.Services.{method_body_at, method_end_at, method_at, service_item_at}
+use Rattle.proto_parse.proofs.Reading.Services.{service_items_at, service_at}
 use Rattle.proto_grammar.proofs.RepetitionStepLemmas.{same_ok, bind_ok, guard_ok}
 use Rattle.proto_lex.proofs.ReadingTestLemmas.{chosen}
 use Rattle.proto_grammar.proofs.TerminalTokenLemmas.{token_found, next_found}
@@ -87,7 +86,7 @@ use Rattle.proto_grammar.proofs.Found.Fields.{typed_found, label_found, group_he
 use Rattle.proto_grammar.proofs.Found.Fields.{pass_field_found, integer_found, reserved_found, extensions_found}
 use Rattle.proto_grammar.specs.declared.fault.SyntaxFault.TheVariants as fault
 use Rattle.proto_grammar.specs.declared.fault.SyntaxFault.TheVariants.{TooDeep}
-use Rattle.proto_parse.specs.Reading.Messages.{Inside}
+use Rattle.proto_parse.proofs.Reading.Messages.{Inside}
 use Rattle.std.proofs.Common.{Ok, Err}
 use Rattle.proto_grammar.proofs.RepetitionStepLemmas.{read_as}
 use Rattle.proto_grammar.specs.Terminal.{offset_at}
@@ -389,13 +388,6 @@ message_item_found : (syntax : Syntax) (inner : Inside)
 unfolding message_item_at
 message_item_found syntax inner Inner finds tokens x e =
     item_by_found syntax inner Inner finds tokens x (message_statement_of syntax tokens.left) refl e
-
-pub item_found : (place : Within) (syntax : Syntax) (inner : Inside)
-    (Inner : List Lexeme → List Item → List Lexeme → Type 0)
-    → FindsInside inner Inner → Finds (item_at place syntax inner) (IsItem place syntax Inner)
-item_found within.Message syntax inner Inner finds = message_item_found syntax inner Inner finds
-item_found within.Oneof syntax inner Inner finds = oneof_item_found syntax inner Inner finds
-item_found within.Extend syntax inner Inner finds = extend_item_found syntax inner Inner finds
 
 pub inside_found : (syntax : Syntax) (levels : ℕ) → FindsInside (inside_at syntax levels) (IsInside syntax levels)
 unfolding inside_at IsInside

@@ -1,7 +1,5 @@
 -- What is read follows the parts: headings and enums.
-use Rattle.std.proofs.Common.{ℕ, true, Result}
-use Rattle.std.proofs.Common.{Option}
-use Rattle.std.proofs.Common.{List, [], codes}
+use Rattle.std.proofs.Common.{ℕ, true, Result, Option, List, [], codes}
 use Rattle.proto_lex.specs.declared.token.TokenKind.TheVariants.{Identifier, Semicolon, Equals, OpenBrace}
 use Rattle.proto_lex.specs.declared.token.TokenKind.TheVariants.{CloseBrace}
 use Rattle.proto_grammar.specs.declared.fault.SyntaxFault.{SyntaxFault}
@@ -10,7 +8,7 @@ use Rattle.proto_grammar.specs.declared.tree.Heading.{Heading}
 use Rattle.proto_grammar.specs.Lexeme.{Place}
 use Rattle.proto_grammar.specs.Terminal.{is_word}
 use Rattle.proto_grammar.specs.Reading.Repetition.{and_then, Read, token_that, adding}
-use Rattle.proto_parse.specs.Reading.Messages.{heading_at, value_at, enum_item_at, enum_items_at, enum_at}
+use Rattle.proto_parse.proofs.Reading.Enums.{heading_at, enum_at, value_at, enum_item_at, enum_items_at}
 use Rattle.proto_parse.proofs.ReadingFallLemmas.{enum_items_fall}
 use Rattle.proto_parse.proofs.RefusedMachine.{Step}
 use Rattle.proto_parse.proofs.RefusedMachine.Test.{OfKind, Word}

@@ -9,17 +9,18 @@ use Rattle.proto_grammar.specs.declared.fault.SyntaxFault.{SyntaxFault}
 use Rattle.proto_grammar.specs.declared.fault.SyntaxFault.TheVariants as variant
 use Rattle.proto_grammar.specs.declared.dialect.Syntax.{Syntax}
 use Rattle.proto_grammar.specs.declared.tree.File.{File}
-use Rattle.proto_parse.specs.declared.statement.FileStatement.{FileStatement}
-use Rattle.proto_parse.specs.declared.statement.FileStatement.TheVariants as choice
+use Rattle.proto_steps.specs.declared.statement.FileStatement.{FileStatement}
+use Rattle.proto_steps.specs.declared.statement.FileStatement.TheVariants as choice
 use Rattle.proto_grammar.specs.Lexeme.{Lexeme, Place, place_of}
 use Rattle.proto_grammar.specs.Syntax.{custom_of}
 use Rattle.proto_grammar.specs.Terminal.{first_is, of_kind, is_word, is_end, offset_at}
-use Rattle.proto_parse.specs.Reading.Choice.{file_statement_of}
+use Rattle.proto_steps.specs.Choice.{file_statement_of}
 use Rattle.proto_grammar.specs.Reading.Repetition.{and_then, token_that, adding, until_at}
-use Rattle.proto_parse.specs.Reading.Files.{import_kind_at, path_literal_at, path_literals_at, import_at, package_at}
-use Rattle.proto_parse.specs.Reading.Files.{only_package_at, statement_by, statement_at}
-use Rattle.proto_parse.specs.Reading.Messages.{inside_at, message_at, enum_at, extend_statement_at}
-use Rattle.proto_parse.specs.Reading.Services.{service_at}
+use Rattle.proto_parse.proofs.Reading.Enums.{enum_at}
+use Rattle.proto_parse.proofs.Reading.Files.{import_kind_at, path_literal_at, path_literals_at, import_at, package_at}
+use Rattle.proto_parse.proofs.Reading.Files.{only_package_at, statement_by, statement_at}
+use Rattle.proto_parse.proofs.Reading.Messages.{inside_at, message_at, extend_statement_at}
+use Rattle.proto_parse.proofs.Reading.Services.{service_at}
 use Rattle.proto_grammar.specs.Reading.Options.{option_at}
 use Rattle.proto_grammar.specs.declared.dialect.CustomOptions.TheVariants.{Refuse, Skip}
 use Rattle.proto_grammar.specs.declared.dialect.Syntax.TheVariants.{Proto3, Extended, Proto2}

@@ -15,22 +15,22 @@ use Rattle.proto_grammar.specs.declared.dialect.Syntax.TheVariants.{Proto3, Exte
 use Rattle.proto_grammar.specs.declared.tree.Group.{Group}
 use Rattle.proto_grammar.specs.declared.tree.Label.{Label}
 use Rattle.proto_grammar.specs.declared.tree.Item.{Item}
-use Rattle.proto_parse.specs.declared.statement.Within.{Within}
-use Rattle.proto_parse.specs.declared.statement.Within.TheVariants as within
-use Rattle.proto_parse.specs.declared.statement.MessageStatement.{MessageStatement}
-use Rattle.proto_parse.specs.declared.statement.MessageStatement.TheVariants as choice
-use Rattle.proto_parse.specs.Choice.{begins_map}
+use Rattle.proto_steps.specs.declared.statement.Within.{Within}
+use Rattle.proto_steps.specs.declared.statement.Within.TheVariants as within
+use Rattle.proto_steps.specs.declared.statement.MessageStatement.{MessageStatement}
+use Rattle.proto_steps.specs.declared.statement.MessageStatement.TheVariants as choice
+use Rattle.proto_steps.specs.Choice.{begins_map}
 use Rattle.proto_parse.specs.Refused.{is_label}
 use Rattle.proto_grammar.specs.Lexeme.{Lexeme, Place, place_of}
 use Rattle.proto_grammar.specs.Syntax.{custom_of, is_proto2}
 use Rattle.proto_grammar.specs.Terminal.{first_is, of_kind, is_word, begins_group, is_group_word, others}
 use Rattle.proto_grammar.specs.Reading.Repetition.{◌>>=◌, and_then, Read, span_at, token_that, adding, passing}
 use Rattle.proto_grammar.specs.Reading.Fields.{label_at, required_at, typed_at, group_head_at}
-use Rattle.proto_parse.specs.Reading.Messages.{Inside}
-use Rattle.proto_parse.specs.Reading.Messages.{braced_at, group_at, labelled_at, member_at, oneof_member_at}
-use Rattle.proto_parse.specs.Reading.Messages.{oneof_item_at, extend_item_at, oneof_at, extend_at, passed_item_at}
-use Rattle.proto_parse.specs.Reading.Messages.{passed_items_at, passed_extend_at, extend_statement_at, message_at}
-use Rattle.proto_parse.specs.Reading.Messages.{ranges_at, message_item_by, message_item_at, item_at, inside_at}
+use Rattle.proto_parse.proofs.Reading.Messages.{Inside}
+use Rattle.proto_parse.proofs.Reading.Messages.{braced_at, group_at, labelled_at, member_at, oneof_member_at}
+use Rattle.proto_parse.proofs.Reading.Messages.{oneof_item_at, extend_item_at, oneof_at, extend_at, passed_item_at}
+use Rattle.proto_parse.proofs.Reading.Messages.{passed_items_at, passed_extend_at, extend_statement_at, message_at}
+use Rattle.proto_parse.proofs.Reading.Messages.{ranges_at, message_item_by, message_item_at, item_at, inside_at}
 use Rattle.proto_grammar.proofs.TerminalPlaceLemmas.{Behind, behind_here, behind_one}
 use Rattle.proto_grammar.proofs.RepetitionUntilLemmas.{Falls}
 use Rattle.proto_parse.proofs.ReadingFallLemmas.{passed_items_fall, items_fall}

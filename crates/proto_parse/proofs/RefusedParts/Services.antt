@@ -5,9 +5,9 @@ use Rattle.proto_lex.specs.declared.token.TokenKind.TheVariants.{OpenParenthesis
 use Rattle.proto_grammar.specs.declared.dialect.CustomOptions.{CustomOptions}
 use Rattle.proto_grammar.specs.Lexeme.{Place}
 use Rattle.proto_grammar.specs.Reading.Repetition.{adding, passing}
-use Rattle.proto_parse.specs.Reading.Services.{stream_at, method_type_at, method_item_at, method_items_at}
-use Rattle.proto_parse.specs.Reading.Services.{method_body_at, method_end_at, method_at, service_item_at}
-use Rattle.proto_parse.specs.Reading.Services.{service_items_at, service_at}
+use Rattle.proto_parse.proofs.Reading.Services.{stream_at, method_type_at, method_item_at, method_items_at}
+use Rattle.proto_parse.proofs.Reading.Services.{method_body_at, method_end_at, method_at, service_item_at}
+use Rattle.proto_parse.proofs.Reading.Services.{service_items_at, service_at}
 use Rattle.proto_parse.proofs.ReadingFallLemmas.{method_items_fall, service_items_fall}
 use Rattle.proto_parse.proofs.RefusedMachine.{Step}
 use Rattle.proto_parse.proofs.RefusedMachine.Test.{OfKind, Word}

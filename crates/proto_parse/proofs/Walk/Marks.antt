@@ -22,7 +22,7 @@ use Rattle.proto_grammar.specs.declared.tree.FileItem.TheVariants as item
 use Rattle.proto_grammar.specs.declared.tree.Import.{Import}
 use Rattle.proto_grammar.specs.declared.tree.File.{File}
 use Rattle.proto_grammar.specs.Lexeme.{Lexeme}
-use Rattle.proto_parse.specs.Limits.{max_message_depth}
+use Rattle.proto_steps.specs.Limits.{max_message_depth}
 use Rattle.proto_grammar.specs.Syntax.{custom_of}
 use Rattle.proto_grammar.specs.Tree.{BlockTree}
 use Rattle.proto_grammar.specs.Items.{body_of}

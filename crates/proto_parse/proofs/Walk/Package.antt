@@ -21,7 +21,7 @@ use Rattle.proto_parse.proofs.Walk.Marks.{Puts, each_then-append, until_puts, st
 use Rattle.proto_parse.proofs.Walk.Past.{over}
 use Rattle.proto_parse.proofs.GrammarTailLemmas.{syntax_past}
 use Rattle.proto_parse.proofs.GrammarTailLemmas.IsTail.{here}
-use Rattle.proto_parse.specs.Limits.{max_message_depth}
+use Rattle.proto_steps.specs.Limits.{max_message_depth}
 
 -- a package's name stays
 statement_keeps : (syntax : Syntax) (f g : File) (a b : List Lexeme) (components : List Span)

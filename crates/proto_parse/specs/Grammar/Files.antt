@@ -19,7 +19,7 @@ use Rattle.proto_grammar.specs.Lexeme.{Lexeme}
 use Rattle.proto_grammar.specs.Terminal.{first_is, of_kind, is_word, is_plain_literal, between_quotes, not_next, is_end}
 use Rattle.proto_grammar.specs.Syntax.{custom_of, proto3_in}
 use Rattle.proto_grammar.specs.Tree.{BlockTree}
-use Rattle.proto_parse.specs.Limits.{max_message_depth}
+use Rattle.proto_steps.specs.Limits.{max_message_depth}
 use Rattle.proto_grammar.specs.Grammar.Repetition.{One, Until, Adds}
 use Rattle.proto_grammar.specs.Grammar.Names.{IsName}
 use Rattle.proto_grammar.specs.Grammar.Options.{IsOption}

@@ -20,8 +20,6 @@ use Rattle.proto_grammar.specs.declared.tree.Head.TheVariants as head
 use Rattle.proto_grammar.specs.declared.tree.Leaf.TheVariants as leaf
 use Rattle.proto_grammar.specs.declared.tree.Item.{Item}
 use Rattle.proto_grammar.specs.declared.tree.Item.TheVariants.{Block, Leaf}
-use Rattle.proto_parse.specs.declared.statement.Within.{Within}
-use Rattle.proto_parse.specs.declared.statement.Within.TheVariants as within
 use Rattle.proto_grammar.specs.Lexeme.{Lexeme}
 use Rattle.proto_grammar.specs.Terminal.{first_is, of_kind, is_word, closes, begins_scalar, begins_group}
 use Rattle.proto_grammar.specs.Syntax.{custom_of, is_proto2, extends}
@@ -189,13 +187,6 @@ pub data IsMessageItem (syntax : Syntax) (Inner : List Lexeme → List Item → 
       → IsMessageItem syntax Inner a None b
   member : {a b : List Lexeme} {item : Item} → begins_other syntax a ≡ false → IsMember syntax Inner a item b
       → IsMessageItem syntax Inner a (Some item) b
-
--- What may be between these braces.
-abbrev pub IsItem : Within → Syntax → (List Lexeme → List Item → List Lexeme → Type 0) → List Lexeme → Option Item
-    → List Lexeme → Type 0
-IsItem within.Message syntax Inner = IsMessageItem syntax Inner
-IsItem within.Oneof syntax Inner = IsOneofItem syntax Inner
-IsItem within.Extend syntax Inner = IsExtendItem syntax Inner
 
 -- What is behind the "{" of a message or a group, its "}" included. The message or the group takes up one of this many
 -- levels. What is between its braces takes up the others: oneofs and extends take up none.

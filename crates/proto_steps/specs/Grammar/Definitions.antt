@@ -80,8 +80,8 @@ unfoldable pub enum_items : CustomOptions → Step (List Heading)
 enum_items custom = While is_inside (adding (enum_item custom)) []
 
 -- enum = "enum" IDENT "{" { option | enumReserved | value | ";" } "}"
-unfoldable pub enum : CustomOptions → Step Enum
-enum custom = do
+unfoldable pub enumeration : CustomOptions → Step Enum
+enumeration custom = do
   declared ← heading (codes "enum")
   values ← enum_items custom
   close_brace ← sign CloseBrace
@@ -217,7 +217,7 @@ unfoldable pub message_item : Syntax → Inside → Step (Option Item)
 message_item syntax inside =
     If (of_kind Semicolon) empty
     (If (is_word (codes "message")) (message inside >>= λ x. Done (Some (Block x)))
-    (If (is_word (codes "enum")) (enum (custom_of syntax) >>= λ x. Done (Some (Leaf (leaf.Enum x))))
+    (If (is_word (codes "enum")) (enumeration (custom_of syntax) >>= λ x. Done (Some (Leaf (leaf.Enum x))))
     (If (is_word (codes "option")) (option_statement (custom_of syntax) >>= λ x. Done None)
     (If (is_word (codes "oneof")) (oneof syntax inside >>= λ x. Done (Some (Block x)))
     (If (is_word (codes "map")) (map_item syntax >>= λ x. Done (Some (Leaf x)))
@@ -347,8 +347,11 @@ import_kind =
 unfoldable pub path_literal : Step Span
 path_literal = If is_escaped (Never ImportEscape) plain_literal
 
+abbrev pub kept_literal : Step (Option Span)
+kept_literal = path_literal >>= λ x. Done (Some x)
+
 unfoldable pub path_literals : List Span → Step (List Span)
-path_literals first = While (of_kind StringLiteral) (adding (path_literal >>= λ x. Done (Some x))) first
+path_literals first = While (of_kind StringLiteral) (adding kept_literal) first
 
 -- import = "import" [ "weak" | "public" ] strings ";"
 unfoldable pub import : Step Import
@@ -386,7 +389,7 @@ file_statement levels syntax file =
     (If (is_word (codes "package")) (only_package file)
     (If (is_word (codes "option")) (option_statement (custom_of syntax) >>= λ x. Done file)
     (If (is_word (codes "message")) (message (inside syntax levels) >>= λ x. with_items file (statement.Block x ∷ []))
-    (If (is_word (codes "enum")) (enum (custom_of syntax) >>= λ x. with_items file (statement.Enum x ∷ []))
+    (If (is_word (codes "enum")) (enumeration (custom_of syntax) >>= λ x. with_items file (statement.Enum x ∷ []))
     (If (is_word (codes "service")) (service (custom_of syntax) >>= λ x. with_items file (statement.Service x ∷ []))
     (If (is_word (codes "extend")) (extend_statement syntax (inside syntax levels) >>= λ x. with_items file
     (option_to_list (option_map statement.Block x)))

@@ -1,2 +1,0 @@
-pub mod BracedLemmas
-pub mod ServiceLemmas

@@ -1,0 +1,5 @@
+pub mod Braced
+pub mod Enums
+pub mod Files
+pub mod Messages
+pub mod Services

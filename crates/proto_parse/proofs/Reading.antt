@@ -1,0 +1,5 @@
+pub mod Enums
+pub mod Files
+pub mod Messages
+pub mod Services
+pub mod Syntax

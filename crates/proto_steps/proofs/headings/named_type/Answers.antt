@@ -1,5 +1,0 @@
-use Rattle.proto_steps.proofs.AgreeLemmas.{named_type_agrees}
-use Rattle.proto_steps.proofs.headings.named_type.Goals as goal
-
-pub returns : goal.returns
-returns c = rw (named_type_agrees c.args.parser.now) c.named_type.ensures

@@ -4,11 +4,10 @@ use Rattle.std.proofs.Common.{◌∷◌, length, take, get_or, refl, ap, sym, �
 use Rattle.std.proofs.Common.{Option, Some, None, MatchOption}
 use Rattle.std.proofs.lemmas.Bool.{cases_eq}
 use Rattle.std.proofs.lemmas.Bool.Decides.{nat_tests}
-use Rattle.std.proofs.lemmas.List.{take_all, take_more, take-take, get_or-take, length-take-le}
-use Rattle.std.proofs.lemmas.List.Sums.{fold_push}
+use Rattle.std.proofs.lemmas.List.{take_all, take-take, get_or-take, length-take-le}
 use denote.Ref.{Bor}
-use Rattle.proto_decl.specs.Names.{hash64, hash64_byte, qualified, IsAround}
-use Rattle.proto_decl.proofs.ScopeLemmas.{around_dot, around_none, none_around_root, one_around}
+use Rattle.proto_decl.specs.Names.{qualified, IsAround}
+use Rattle.proto_decl.proofs.ScopeLemmas.{around_dot, around_none, one_around}
 use Rattle.proto_visibility.specs.Files.{File}
 use Rattle.proto_visibility.specs.Knows.{NameKind, KnowsAs}
 use Rattle.proto_link.specs.Resolves.{Innermost}
@@ -17,13 +16,6 @@ use Rattle.option_link.specs.Outer.{IsNextIn, IsOuter}
 
 -- ---- one scope and the next
 
-pub root_outer : (scope : List ℕ) → IsOuter scope []
-root_outer scope = record {
-  within = omega arith;
-  front = refl;
-  dot = λ some more. absurd (omega (arith, some));
-}
-
 pub whole_outer : (scope : List ℕ) → IsOuter scope scope
 whole_outer scope = record {
   within = omega arith;
@@ -31,26 +23,9 @@ whole_outer scope = record {
   dot = λ some more. absurd (omega (arith, more));
 }
 
-pub hash_more : (text : List ℕ) (index byte hash : ℕ) → index < length text → byte ≡ get_or text index 0
-    → hash ≡ hash64 (take index text) → hash64_byte hash byte ≡ hash64 (take (index + 1) text)
-hash_more text index byte hash within is so_far =
-    ap (λ (h : ℕ). hash64_byte h byte) so_far
-    ∙ (ap (hash64_byte (hash64 (take index text))) is
-    ∙ (sym (fold_push hash64_byte 0 (take index text) (get_or text index 0))
-    ∙ ap hash64 (sym (take_more text index 0 within))))
-
 -- no byte behind this one and in front of that one is a dot
 abbrev pub HasNoDotIn : (scope : List ℕ) → (behind before : ℕ) → Type 0
 HasNoDotIn scope behind before = (i : ℕ) → behind < i → i < before → get_or scope i 0 ≢ 46
-
-pub no_dot_more : (scope : List ℕ) (behind index byte : ℕ) → byte ≡ get_or scope index 0
-    → (behind < index → byte ≢ 46) → HasNoDotIn scope behind index → HasNoDotIn scope behind (index + 1)
-no_dot_more scope behind index byte is none so_far i after before dot = elim (cases_eq i index) [
-  | inl same ↦ (
-      let here : behind < index = omega (arith, same, after) in
-      none here (is ∙ (ap (λ n. get_or scope n 0) (sym same) ∙ dot)))
-  | inr apart ↦ so_far i after (omega (arith, before, apart)) dot
-]
 
 module _ (scope : List ℕ) (index : ℕ) (within : index ≤ length scope) where
   abbrev pub cut : List ℕ
@@ -149,9 +124,6 @@ module _ (files : List File) (file : ℕ) (admits : NameKind → Bool) (word : L
   AnswersAround found scope = MatchOption found
       ((outer start : List ℕ) → IsAround scope outer → In outer start → ⊥)
       (λ s. (outer : List ℕ) × IsAround scope outer × In outer s.now)
-
-  pub around_root : AnswersAround None []
-  around_root outer start is i = none_around_root is
 
   pub known_here : (scope : List ℕ) (s : Bor (List ℕ)) → s.now ≡ scope → KnowsAs files file admits (qualified scope word)
       → Answers (Some s) scope

@@ -1,13 +1,9 @@
 -- Lines that say why the system refused what it was asked for.
 use Rattle.std.proofs.Common.{◌≡◌, ◌+◌, ◌≤◌, ℕ, List, [], ◌++◌, length, refl, sym, subst, arith, append_assoc}
-use Rattle.std.specs.Prelude.{Option, None, Some, Result, Ok, Err, IfOk, IfErr, IfSome, codes, unwrap_or}
-use Rattle.std.specs.declared.alloc.AllocError.{AllocError}
+use Rattle.std.specs.Prelude.{Option, None, Some, IfSome, codes, unwrap_or}
 use Rattle.std.proofs.lemmas.List.{take-append-le, length-append}
 use Rattle.streams.specs.Writers.{IsCutOff, IsSaid, IsWritten, SinkOf, cut_short, entire, writing}
 use Rattle.streams.proofs.WholeWriteLemmas.{IsWritten-trans, IsCutOff-after}
-use Rattle.command_line.specs.declared.request.Request.{Request}
-use Rattle.programs.specs.Asked.{report_path}
-use Rattle.programs.specs.Causes.{report_name}
 
 module _ {M : Type 0} (sink : SinkOf M) (front line : List ℕ) where
   abbrev joined : (front ++ line) ++ codes "\n" ≡ front ++ (line ++ codes "\n")
@@ -41,11 +37,3 @@ named_so : (path : Option (List ℕ)) (is : List ℕ) → IfSome path (λ p. is 
     → is ≡ unwrap_or path []
 named_so None is some none = none refl
 named_so (Some p) is some none = some
-
-pub report_named : (asked : Result Request AllocError) (is : List ℕ)
-    → IfOk asked (λ request. IfSome (report_path request) (λ p. is ≡ p))
-    → IfOk asked (λ request. report_path request ≡ None → is ≡ [])
-    → IfErr asked (λ _. is ≡ [])
-    → is ≡ report_name asked
-report_named (Ok request) is some none unread = named_so (report_path request) is some none
-report_named (Err refused) is some none unread = unread

@@ -54,10 +54,6 @@ kept_once path x paths true known =
     sym (list_any-append (bytes_eq path) paths (x ∷ [])
     ∙ there_already path x paths known (bytes_eq path x) refl)
 
--- no path of a folder is known yet
-pub no_paths : (id : Package) → IsRootOf (record { id = id; paths = [] }) (record { id = id; paths = [] })
-no_paths id = record { id_is = refl; has = λ path. refl }
-
 -- one more
 pub one_path_more : (id : Package) (before : List (List ℕ)) (x : List ℕ) (old new : Root)
     → IsRootOf (record { id = id; paths = before }) old → new.id ≡ old.id → new.paths ≡ with_path old.paths x
@@ -73,12 +69,6 @@ one_path_more id before x old new is same more = record {
 }
 
 -- ---- folders one after another
-
--- one folder
-pub one_root : (wanted root : Root) (before after : Packages) → IsRootOf wanted root → after.run ≡ before.run
-    → after.roots ≡ before.roots ++ root ∷ [] → AddsRoots (wanted ∷ []) before after
-one_root wanted root before after is run roots =
-    record { added = root ∷ []; are = (is, tt); run = run; roots = roots }
 
 -- none yet
 pub no_roots : (before : Packages) → AddsRoots [] before before

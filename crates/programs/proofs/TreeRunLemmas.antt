@@ -1,6 +1,5 @@
 -- A run over a tree that hands out more than what is recorded.
 use Rattle.std.proofs.Common.{◌≡◌, ℕ, Bool, List, Option, Result, Ok, Err}
-use Rattle.std.specs.Prelude.{MatchResult}
 use Rattle.std.specs.Result.{result_map_both}
 use Rattle.streams.specs.Writers.{Writer}
 use Rattle.proto_parse.specs.dialect.Dialect.{Dialect}
@@ -22,12 +21,6 @@ use Rattle.programs.proofs.TreeRunOmissionLemmas.{ends_of, omissions_said}
 -- the part of what is handed out, or the fault
 abbrev pub part_of : {A B E : Type 0} → (A → B) → Result A E → Result B E
 part_of f done = result_map_both f (λ e. e) done
-
--- what holds of the part, or of the fault, holds of the part or the fault
-pub holds_of_part : {A B E : Type 0} (f : A → B) (P : Result B E → Type 0) (done : Result A E)
-    → MatchResult done (λ a. P (Ok (f a))) (λ e. P (Err e)) → P (part_of f done)
-holds_of_part f P (Ok a) holds = holds
-holds_of_part f P (Err e) holds = holds
 
 -- a run ends alike, if what is told is of the part
 pub ends_alike : {M A B : Type 0} (f : A → B) (told_of : B → List Omission)

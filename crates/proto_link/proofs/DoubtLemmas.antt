@@ -180,23 +180,6 @@ adds_none IsNew old none x = (
 )
 
 module _ (files : List File) (file behind : ℕ) where
-  abbrev doubted_use : Use → UncertainUse
-  doubted_use type_use = record { place = record { file = file; span = type_use.span }; behind = behind }
-
-  pub adds_use : (type_use : Use) (old : List UncertainUse) → MayChange files file type_use
-      → Adds (IsDoubtedUse files file behind type_use) old (old ++ doubted_use type_use ∷ [])
-  adds_use type_use old may x = (
-    λ there. elim (Contains-append_cases old (doubted_use type_use ∷ []) x there) [
-      | inl before ↦ inl before
-      | inr last ↦ inr (record { may = may; is = sym (only (doubted_use type_use) x last) })
-    ],
-    λ both. elim both [
-      | inl there ↦ Contains-append_left old (doubted_use type_use ∷ []) x there
-      | inr is ↦ subst (Contains (old ++ doubted_use type_use ∷ [])) (sym is.is)
-          (Contains-push old (doubted_use type_use))
-    ],
-  )
-
   pub doubted_first : (old : List UncertainUse) → Adds (IsDoubted files file behind []) old old
   doubted_first old = adds_none (IsDoubted files file behind []) old (λ x is. in_nothing is.type_use is.listed)
 

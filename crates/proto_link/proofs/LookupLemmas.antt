@@ -1,9 +1,8 @@
 -- Lookup along scopes.
-use Rattle.std.proofs.Common.{◌≡◌, ◌↔◌, ℕ, ◌+◌, ◌<◌, Bool, List, [], ◌∷◌, ◌++◌, length, Option, Some, None, MatchOption}
-use Rattle.std.proofs.Common.{refl, subst, arith}
+use Rattle.std.proofs.Common.{◌≡◌, ◌↔◌, ℕ, ◌+◌, Bool, List, [], length, Option, Some, None, MatchOption}
+use Rattle.std.proofs.Common.{subst}
 use Rattle.proto_decl.specs.Names.{qualified, IsAround}
 use Rattle.proto_decl.proofs.ScopeLemmas.{one_around, none_around_root}
-use Rattle.std.proofs.lemmas.List.{append_assoc}
 use denote.Ref.{Bor}
 use Rattle.proto_visibility.specs.Files.{File}
 use Rattle.proto_visibility.specs.Knows.{NameKind, KnowsAs}
@@ -50,11 +49,3 @@ module _ (files : List File) (file : ℕ) (admits : NameKind → Bool) (word : L
 abbrev pub left : Option (Bor (List ℕ)) → ℕ
 left None = 0
 left (Some s) = length s.now + 1
-
-pub under_root : (scope name : List ℕ) → length scope ≡ 0 → name ≡ qualified scope name
-under_root [] name e = refl
-under_root (byte ∷ scope) name e = absurd (omega arith)
-
-pub under_scope : (scope name : List ℕ) → 0 < length scope → (scope ++ 46 ∷ []) ++ name ≡ qualified scope name
-under_scope [] name e = absurd (omega arith)
-under_scope (byte ∷ scope) name e = append_assoc (byte ∷ scope) (46 ∷ []) name

@@ -163,17 +163,6 @@ module _ {S : Type 0} (files : List File) (file : ℕ) (type_use : Use) (bytes :
       (compound_of files file bytes type_use.scope type_use.is_extended first.name words.0 words.1 text result
       (text_is ∙ ap dotted words.2) found)
 
-pub use_none : (files : List File) (file : ℕ) (type_use : Use) → type_use.has_leading_dot ≡ false
-    → length type_use.components ≡ 0 → HasNoName files file type_use
-use_none files file type_use dot size =
-    λ name r. no type_use.components size type_use.is_extended name
-    (subst (λ d. ResolvesIn files file type_use.is_extended d (words_of type_use) type_use.scope name) dot r)
-  where
-    no : (cs : List Component) → length cs ≡ 0 → (is_extended : Bool) (name : List ℕ)
-        → ResolvesIn files file is_extended false (map (λ c. c.name) cs) type_use.scope name → ⊥
-    no [] e is_extended name r = elim r [ ]
-    no (c ∷ cs) e is_extended name r = absurd (omega arith)
-
 -- ---- a use, by the texts of what is looked up
 
 pub ok_each : {A E : Type 0} (P Q : A → Type 0) (result : Result A E) → IfOk result P → ((x : A) → P x → Q x)

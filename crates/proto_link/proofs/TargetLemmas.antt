@@ -31,7 +31,7 @@ use Rattle.proto_link.specs.Tables.Found.{HasNoName}
 use Rattle.proto_link.proofs.LawLemmas.{one_name_a_use}
 use Rattle.proto_visibility.specs.Knows.DeclaresName.{declared as gives_declared, packaged as gives_packaged}
 use Rattle.proto_visibility.specs.Knows.{IsEntityOf}
-use Rattle.proto_link.specs.Tables.Parts.{AreEntitiesOf, AreEntitiesAt, longer}
+use Rattle.proto_link.specs.Tables.Parts.{AreEntitiesAt, longer}
 use Rattle.proto_decl.proofs.CommentTextLemmas.{join_with_byte-push}
 use Rattle.proto_visibility.proofs.SeeingLemmas.{slice_get_prefix}
 use Rattle.proto_visibility.proofs.FileFactLemmas.{one_list_of_facts}
@@ -132,10 +132,6 @@ is_of_type (single innermost) = known_there innermost
 is_of_type (extended innermost known) = of_wanted true known
 is_of_type (compound {is_extended = is_extended} innermost known) = of_wanted is_extended known
 
-pub resolved_type : (files : List File) (file : ℕ) (type_use : Use) (name : List ℕ) → Resolves files file type_use name
-    → KnowsAs files file is_type name
-resolved_type files file type_use name r = is_of_type r
-
 -- ---- its prefixes are entities of the file that declares it
 
 prefix_entity : {facts : Facts} {name : List ℕ} {kind : NameKind} → PrefixesAreEntities facts
@@ -196,20 +192,6 @@ module _ (number : ℕ) (facts : Facts) (name : List ℕ) (skipped : ℕ) where
           (subst (IsEntityOf number facts prefix (count + 1)) (sym same) entity)))
     ];
   }
-
-pub parts_all : (number : ℕ) (facts : Facts) (name : List ℕ) (components : List (Bor (List ℕ))) (used skipped count : ℕ)
-    (parts : List Entity) → map (λ c. c.now) components ≡ components_of name → used ≤ length (components_of name)
-    → skipped ≡ length components - used → count ≡ length components → AreParts number facts name skipped count parts
-    → AreEntitiesOf number facts name used parts
-parts_all number facts name components used skipped count parts are few skip all so_far =
-    let size : length components ≡ length (components_of name) =
-    sym (length-map components (λ (c : Bor (List ℕ)). c.now)) ∙ ap length are in
-    let skip_is : skipped ≡ length (components_of name) - used = skip ∙ ap (λ n. n - used) size in
-    record {
-      one_each = omega (arith, so_far.size, size, few, skip_is, all);
-      each = λ j part at. subst (λ n. IsEntityOf number facts (prefix_of name (n + j + 1)) (n + j + 1) part) skip_is
-          (so_far.each j part at);
-    }
 
 -- ---- so they are a target
 

@@ -1,6 +1,6 @@
 -- What public imports lead to from files.
-use Rattle.std.proofs.Common.{◌≡◌, ◌↔◌, ◌⊎◌, inl, inr, ℕ, ◌+◌, ◌<◌, zero, suc, Bool, true, false, All, List, []}
-use Rattle.std.proofs.Common.{◌∷◌, ◌++◌, length, get_or, set, take, Option, Some, None, refl, ap, sym, ◌∙◌, subst, arith}
+use Rattle.std.proofs.Common.{◌≡◌, ◌↔◌, ◌⊎◌, inl, inr, ℕ, ◌+◌, ◌<◌, zero, suc, Bool, true, false, List, []}
+use Rattle.std.proofs.Common.{◌∷◌, ◌++◌, length, get_or, set, take, Option, Some, refl, ap, sym, ◌∙◌, subst, arith}
 use Rattle.std.specs.List.{Contains, slice_get}
 use Rattle.std.proofs.lemmas.Bool.{cases_eq}
 use Rattle.std.proofs.lemmas.Option.{slice_get_within, slice_get-get_or, get_or_from_slice_get, same_Some}
@@ -94,20 +94,6 @@ set_other xs k j x y differs stands =
     let within = slice_get_within (set xs k x) j y stands in
     slice_get-get_or xs j y (omega (arith, within, length-set xs k x))
     ∙ ap Some (sym (get_or-set_other xs k j x y differs) ∙ get_or_from_slice_get (set xs k x) j y y stands)
-
-pub none_led : (table : List Steps) (order : List ℕ) (indexes : List (Option ℕ)) (rows : List (List ℕ))
-    → length indexes ≡ length table → All (λ index. index ≡ None) indexes → AreLed table order indexes rows
-none_led table order indexes rows size none = record {
-  one_each = size;
-  listed = λ file index stands. absurd (no file index stands);
-  led = λ file index row stands listed. absurd (no file index stands);
-}
-  where
-    no : (file index : ℕ) → slice_get indexes file ≡ Some (Some index) → ⊥
-    no file index stands =
-        let is = none file (Some index) (slice_get_within indexes file (Some index) stands) in
-        let same = get_or_from_slice_get indexes file (Some index) (Some index) stands in
-        cc
 
 pub one_led : (table : List Steps) (order : List ℕ) (indexes : List (Option ℕ)) (rows : List (List ℕ)) (row : List ℕ)
     (file : ℕ) → AreLed table order indexes rows → file < length indexes → IsLed table order row file

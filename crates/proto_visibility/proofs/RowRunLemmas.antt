@@ -122,47 +122,7 @@ first_before run runs empty =
       ended = All-nil (λ (r : Run). r.last ≤ run.first);
     })
 
--- one more run that begins behind their ends
-pub pushed_before : (runs : List Run) (run : Run) (number : ℕ) → AreBefore runs run.first → run.first ≤ run.last
-    → run.last ≤ number → AreBefore (runs ++ run ∷ []) number
-pushed_before runs run number before whole ends = record {
-  order = pushed_order runs run before whole;
-  ended = All-push (λ (r : Run). r.last ≤ number) runs run
-      (λ k d h. (let e = before.ended k d h in omega (arith, e, whole, ends))) ends;
-}
-
 -- ---- a run with a next one
-
-pub within_run : (runs : List Run) (run next : Run) → run.first ≤ next.first → next.last ≤ run.last → (other : ℕ)
-    → HasNumber runs run other ↔ (HasNumber runs run other ⊎ IsIn next other)
-within_run runs run next behind inside other = (
-  λ has. inl has,
-  λ has. elim has [
-    | inl old ↦ old
-    | inr is ↦ inr (omega (arith, is.0, behind), omega (arith, is.1, inside))
-  ],
-)
-
-pub longer_run : (runs : List Run) (run next : Run) → next.first ≤ next.last → run.first ≤ next.first
-    → run.last < next.last → next.first - run.last ≤ 1 → (other : ℕ)
-    → HasNumber runs (record { first = run.first; last = next.last }) other
-    ↔ (HasNumber runs run other ⊎ IsIn next other)
-longer_run runs run next whole behind past near other = (
-  λ has. elim has [
-    | inl old ↦ inl (inl old)
-    | inr is ↦ elim (cases_lt run.last other) [
-      | inl late ↦ inr (omega (arith, late, near), is.1)
-      | inr early ↦ inl (inr (is.0, early))
-    ]
-  ],
-  λ has. elim has [
-    | inl before ↦ elim before [
-      | inl old ↦ inl old
-      | inr is ↦ inr (is.0, omega (arith, is.1, past))
-    ]
-    | inr is ↦ inr (omega (arith, is.0, behind), is.1)
-  ],
-)
 
 -- the next one is behind a run that is kept
 pub other_run : (runs : List Run) (run next : Run) (other : ℕ)

@@ -1,6 +1,6 @@
 -- What is told beside what couldn't be read.
 use Rattle.std.proofs.Common.{◌≡◌, ◌∙◌, ℕ, ◌<◌, ◌≤◌, ◌+◌, List, [], ◌∷◌, ◌++◌, length, take, get_or, ap, sym, cond}
-use Rattle.std.proofs.Common.{arith, refl}
+use Rattle.std.proofs.Common.{arith}
 use Rattle.std.specs.List.{count_by, filter}
 use Rattle.std.specs.List.Sorted.{IsStrictlySortedBy}
 use Rattle.std.proofs.lemmas.List.Elements.{All-filter, filter_more}
@@ -36,15 +36,6 @@ beside_rises [] told rising = rising
 beside_rises (first ∷ others) told rising = IsStrictlySortedBy-filter told_cmp is_read told rising
 
 -- ---- beside nothing, or something
-
-pub beside_all : (unread : List PathUnread) (told : List Omission) → length unread ≡ 0 → told_beside unread told ≡ told
-beside_all [] told none = refl
-beside_all (first ∷ others) told none = absurd (omega (arith, none))
-
-pub beside_read : (unread : List PathUnread) (told : List Omission) → 1 ≤ length unread
-    → told_beside unread told ≡ filter is_read told
-beside_read [] told some = absurd (omega (arith, some))
-beside_read (first ∷ others) told some = refl
 
 pub counts_all : (unread : List PathUnread) (told : List Omission) (count : ℕ) → length unread ≡ 0
     → count ≡ count_by is_skipped told → count ≡ count_by (is_left_beside unread) told

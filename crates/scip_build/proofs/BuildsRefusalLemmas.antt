@@ -8,15 +8,13 @@ use Rattle.proto_visibility.specs.Files.{File}
 use Rattle.proto_visibility.specs.Linked.{CanBeLinked}
 use Rattle.scip_records.specs.declared.records.Document.{Document}
 use Rattle.source_tree.specs.Files.{TreeFile}
-use Rattle.scip_build.specs.FactForms.{form_of}
 use Rattle.scip_build.specs.declared.settings.Settings.{Settings}
 use Rattle.scip_build.specs.declared.made.Made.{Made}
 use Rattle.scip_build.specs.declared.faulty.Faulty.{Faulty}
 use Rattle.scip_build.specs.declared.faulty.Faulty.TheVariants.{Refuse, Skip}
 use Rattle.scip_build.specs.declared.fault.BuildFault.{BuildFault}
-use Rattle.scip_build.specs.declared.fault.BuildFault.TheVariants as build
 use Rattle.scip_build.specs.Files.{ReadFile}
-use Rattle.scip_build.specs.ParsedFiles.{AreParsedFiles, MayRefuseFiles}
+use Rattle.scip_build.specs.ParsedFiles.{MayRefuseFiles}
 use Rattle.scip_build.specs.Linking.{linked_files, MayRefuseParsed}
 use Rattle.option_link.specs.declared.facts.OptionFacts.{OptionFacts}
 use Rattle.scip_build.specs.Documents.{asked_if, asks_in, IsToldFor, MayRefuseDocuments, MayRefuseLinked}
@@ -104,20 +102,6 @@ module _ (allows : Seen → Choice → Type 0) (settings : Settings) (tree : Lis
   of_parsed_file _ (files_lack_thread more) = more
   of_parsed_file _ files_lack_memory = tt
   of_parsed_file _ (first_is_faulty refuse first) = (refuse, inl first)
-
-  -- why files that were read make no index
-  pub of_making : settings.faulty ≡ Refuse → (parsed : List ReadFile)
-      → AreParsedFiles Refuse settings.dialect (form_of settings) allows tree parsed
-      → (fault : BuildFault) → MayRefuseMaking settings.duplicates (asks_in settings) parsed workers fault
-      → IsBuildFault allows settings tree workers fault
-  of_making refuse parsed are build.Spawn is = is
-  of_making refuse parsed are build.Memory is = tt
-  of_making refuse parsed are (build.File number fault) is = (refuse, inr (parsed, are, is))
-  of_making refuse parsed are (build.Duplicate first second) is = (refuse, (parsed, are, is))
-  of_making refuse parsed are (build.MissingImport place) is = (refuse, (parsed, are, is))
-  of_making refuse parsed are (build.Unresolved place) is = (refuse, (parsed, are, is))
-  of_making refuse parsed are (build.Ambiguous place) is = (refuse, (parsed, are, is))
-  of_making refuse parsed are (build.OptionGap place) is = (refuse, (parsed, are, is))
 
   -- why what is kept of them makes none
   pub of_kept : (fault : BuildFault) → MayRefuseSkipping workers fault

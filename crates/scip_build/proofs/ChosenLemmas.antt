@@ -1,7 +1,7 @@
 -- One more choice, for the next declaration.
-use Rattle.std.proofs.Common.{◌≡◌, ◌∙◌, ℕ, ◌+◌, ◌<◌, ◌≤◌, List, [], ◌∷◌, ◌++◌, length, take, get_or, ap, sym, subst}
+use Rattle.std.proofs.Common.{◌≡◌, ◌∙◌, ℕ, ◌+◌, ◌<◌, List, [], ◌∷◌, ◌++◌, length, take, get_or, ap, sym, subst}
 use Rattle.std.specs.List.{AllZip}
-use Rattle.std.proofs.lemmas.List.{take_more, take_all}
+use Rattle.std.proofs.lemmas.List.{take_more}
 use Rattle.basics.proofs.ListLemmas.{zip_push as AllZip-push}
 
 module _ {A B : Type 0} (R : A → B → Type 0) (xs : List A) (ys : List B) (i : ℕ) where
@@ -12,6 +12,3 @@ module _ {A B : Type 0} (R : A → B → Type 0) (xs : List A) (ys : List B) (i 
       let front : take i xs ++ x ∷ [] ≡ take (i + 1) xs =
       ap (λ a. take i xs ++ a ∷ []) is ∙ sym (take_more xs i x within) in
       subst P front (AllZip-push R (take i xs) ys x y all r)
-
-  pub all_of_them : length xs ≤ i → AllZip R (take i xs) ys → AllZip R xs ys
-  all_of_them past all = let P : List A → Type 0 = λ front. AllZip R front ys in subst P (take_all i xs past) all

@@ -95,8 +95,3 @@ adds_one Is told one is only = λ x. (
     | inr it ↦ Contains-append_right told (one ∷ []) x (subst (Contains (one ∷ [])) (only x it) (in_front one []))
   ],
 )
-
--- of none nothing comes
-pub adds_front : {X : Type 0} (IsOf : ℕ → X → Omission → Type 0) (xs : List X) (told : List Omission)
-    → Adds (FromFront IsOf xs 0) told told
-adds_front IsOf xs told = adds_none (FromFront IsOf xs 0) told (λ x from. let n = from.within in omega (arith, n))

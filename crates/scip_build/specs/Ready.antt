@@ -9,7 +9,7 @@ use Rattle.std.specs.List.{slice_get}
 use Rattle.std.specs.List.Sorted.{IsStrictlyIncreasing}
 use Rattle.proto_decl.specs.declared.declaration.Declaration.{Declaration}
 use Rattle.index_hooks.specs.declared.choice.Choice.{Choice}
-use Rattle.index_pool.specs.declared.workers.TheConstants.{MAX_INPUTS}
+use Rattle.index_pool.specs.Workers.{most_inputs}
 use Rattle.proto_visibility.specs.Files as link
 use Rattle.scip_symbol.specs.Path.{IsGoodPath}
 use Rattle.scip_model.specs.Conditions.{AreOfText}
@@ -49,7 +49,7 @@ ArePresent parsed = (number : ℕ) (parsed_file : ReadFile) → slice_get parsed
     → parsed_file.is_left_out ≡ false
 
 pub record AreOfTree (links : Bool) (parsed : List ReadFile) : Type 0 where
-  pub few : length parsed ≤ MAX_INPUTS
+  pub few : length parsed ≤ most_inputs
   pub each : (number : ℕ) (parsed_file : ReadFile) → slice_get parsed number ≡ Some parsed_file
       → IsOfTree links parsed_file
   pub own : link.HaveOwnPaths (linked_files parsed)

@@ -20,7 +20,7 @@ fn choices_of(alloc: Global, parsed_file: &ParsedFile<'_>) -> Result<Vec<Choice>
 /// A copy of the choices: for each file, by its number, a list, in the order of its declarations.
 /// The parsed files are borrowed while the files are linked, so the choices can't be moved out of them. A file without
 /// contents has an empty list. An error means that memory was refused.
-pub fn chosen_lists(
+pub(crate) fn chosen_lists(
     alloc: Global,
     parsed: &[ParsedFile<'_>],
 ) -> Result<Vec<Vec<Choice>>, AllocError>

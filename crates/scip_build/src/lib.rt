@@ -50,7 +50,6 @@ mod omission;
 
 pub use building::{build, build_in_form};
 pub use built::Built;
-pub use chosen::chosen_lists;
 pub use document_form::{AsRecords, DocumentForm};
 pub use fault::{BuildFault, FileFault};
 pub use faulty::Faulty;

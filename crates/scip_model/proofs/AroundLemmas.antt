@@ -15,10 +15,9 @@ use Rattle.proto_decl.specs.declared.detail.Detail.{Detail}
 use Rattle.proto_decl.specs.declared.declaration.Declaration.{Declaration}
 use Rattle.proto_decl.specs.declared.declaration.DeclarationStep.{DeclarationStep}
 use Rattle.scip_records.specs.Range.{RangeNumbers}
-use Rattle.scip_symbol.specs.Entities.{OfDeclaration}
 use Rattle.scip_symbol.specs.Package.{Package}
 use Rattle.scip_model.specs.Detailed.{detail_at, details_shown, details_with, path_around, symbol_around, text_around}
-use Rattle.scip_model.specs.Named.{Home, text_of}
+use Rattle.scip_model.specs.Named.{Home}
 use Rattle.scip_model.specs.Repeated.{file_namespace}
 use Rattle.scip_model.specs.Occurs.{definition_role, enclosing_with, range_over}
 use Rattle.scip_model.specs.Tables.Plans.{Around, around_in, arounds_if, arounds_in, declaration_number, range_around}
@@ -31,12 +30,6 @@ pub path_front : (outer : List DeclarationStep) (last : DeclarationStep) → pat
 path_front [] last = refl
 path_front (step ∷ []) last = refl
 path_front (step ∷ (next ∷ others)) last = ap (λ steps. step ∷ steps) (path_front (next ∷ others) last)
-
-pub symbol_of_steps : (id : Package) (components : List (List ℕ)) (outer : List DeclarationStep)
-    (last : DeclarationStep)
-    → symbol_around id components (outer ++ last ∷ []) ≡ text_of id (OfDeclaration components (outer ++ last ∷ []))
-symbol_of_steps id components [] last = refl
-symbol_of_steps id components (step ∷ steps) last = refl
 
 -- what a declaration with these steps is in
 pub text_of_outer : (id : Package) (components : List (List ℕ)) (declared : Declaration) (outer : List DeclarationStep)

@@ -165,9 +165,6 @@ module _ (files : List File) (chosen : Chosen) (ids : Packages) where
 
   -- ---- the entries are those of such declarations
 
-  pair-of : ℕ → ℕ → Pair
-  pair-of file index = (file, index)
-
   pub external-pair : (entry : SymbolInformation) (has : HasExternal files chosen ids entry)
       → IsExternal files chosen (length files) (has.number, has.index)
   external-pair entry has =

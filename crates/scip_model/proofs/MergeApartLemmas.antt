@@ -193,14 +193,6 @@ module _ {X : Type 0} (cmp : X → X → Ordering) (order : IsTotalOrder cmp) wh
       by Equal u = absurd (none-some _ (sym e ∙ u.0))
       by Greater u = absurd (none-some _ (sym e ∙ u.0))
 
--- where there is no second list
-pub first-alone : {X : Type 0} (cmp : X → X → Ordering) (xs : List X) → IsStrictlySortedBy cmp xs
-    → IsMergedApart cmp xs [] xs
-first-alone cmp xs up = record {
-  all = λ x. (inl, ⊎_elim (λ h. h) (λ none. absurd (not_in_none x none.0)));
-  ascends = up;
-}
-
 -- the second list may have doubles, if only equal items are tied
 pub of-single : {X : Type 0} (cmp : X → X → Ordering) (first second once both : List X) → AreUntied cmp second second
     → IsMadeSingle cmp second once → IsMergedApart cmp first once both → IsMergedApart cmp first second both

@@ -135,12 +135,6 @@ module _ {A S : Type 0} (number : ℕ) where
   -- ---- one declaration
 
   module _ (d : Declaration) where
-    pub taken-inner : (holders : HashMap (String A) ℕ S) (names : List (List ℕ)) → length d.path ≢ 1
-        → AreTakenFrom number (d ∷ []) holders holders names names
-    taken-inner holders names inner =
-        taken-none (d ∷ []) holders names (λ name is.
-        inner (ap (λ (x : Declaration). length x.path) (only d is.declaration is.listed) ∙ is.outermost))
-
     module _ (outermost : length d.path ≡ 1) (holders more : HashMap (String A) ℕ S) (old new : List (List ℕ))
         (first : ℕ) (found : first ≡ unwrap_or (get_by_text holders d.full_name) number)
         (kept : (other : List ℕ) → get_by_text more other

@@ -27,13 +27,6 @@ count_on bytes at byte count after first inside is is_first put counted =
 
 -- ---- what is appended piece by piece
 
-pub in_six : (text a b c d e f : List ℕ)
-    → text ++ a ++ b ++ c ++ d ++ e ++ f ≡ text ++ (a ++ b ++ c ++ d ++ e ++ f)
-in_six text a b c d e f = simp append_assoc
-
-pub in_three : (text a b c : List ℕ) → text ++ a ++ b ++ c ≡ text ++ (a ++ b ++ c)
-in_three text a b c = simp append_assoc
-
 pub in_two : (text a b : List ℕ) → text ++ a ++ b ≡ text ++ (a ++ b)
 in_two text a b = append_assoc text a b
 

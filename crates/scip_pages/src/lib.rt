@@ -73,5 +73,5 @@ pub use snapshot_fault::SnapshotFault;
 pub use snapshots::{is_definition, parts_of, push_flat, snapshot};
 pub use told::{Source, has_path, paths_of, push_told};
 pub use told_places::{place_path, placed};
-pub use urls::{push_encoded, push_ups, push_url};
+pub use urls::{push_encoded, push_url};
 pub use uses::marked_text;

@@ -76,7 +76,7 @@ fn push_up(url: &mut Vec<u8>, byte: u8) -> Result<(), AllocError>
 }
 
 /// Appends what leads from the folder of the page with a path to that of all pages.
-pub fn push_ups(url: &mut Vec<u8>, from: &[u8]) -> Result<(), AllocError>
+pub(crate) fn push_ups(url: &mut Vec<u8>, from: &[u8]) -> Result<(), AllocError>
     ensures { OnOk result (url.new.items ≡ url.old.items ++ spec.ups from.now) }
 {
     for byte in from {

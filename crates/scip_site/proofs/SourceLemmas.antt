@@ -18,10 +18,6 @@ pub none_with : (path : List ℕ) (unit : Option ColumnUnit) → None ≡ source
 none_with path None = refl
 none_with path (Some unit) = refl
 
-no_unit : (path : List ℕ) (read : Option (List ℕ)) → None ≡ source_with path None read
-no_unit path None = refl
-no_unit path (Some text) = refl
-
 pub text_with : (path : List ℕ) (unit : ColumnUnit) (text : List ℕ) → is_utf8 text ≡ true
     → Some (record { path = path; unit = unit; text = text }) ≡ source_with path (Some unit) (Some text)
 text_with path unit text is = rw is refl

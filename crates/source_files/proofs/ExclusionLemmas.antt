@@ -1,8 +1,8 @@
 -- What isn't excluded, one after the other.
-use Rattle.std.proofs.Common.{◌≡◌, ◌∙◌, ◌↔◌, ◌<◌, ◌≤◌, ◌-◌, ℕ, Bool, true, false, List, [], ◌∷◌, ◌++◌, map, sym, subst}
-use Rattle.std.proofs.Common.{◌≢◌, arith, drop, get_or, length, refl, take}
+use Rattle.std.proofs.Common.{◌≡◌, ◌∙◌, ◌↔◌, ◌≤◌, ◌-◌, ℕ, Bool, true, false, List, [], ◌∷◌, ◌++◌, map, sym, subst}
+use Rattle.std.proofs.Common.{◌≢◌, drop, get_or, length, take}
 use Rattle.std.proofs.lemmas.Bool.{false≢true}
-use Rattle.source_files.proofs.WellKnownLemmas.{first_of_rest, none_left}
+use Rattle.source_files.proofs.WellKnownLemmas.{first_of_rest}
 use Rattle.std.proofs.lemmas.List.{append-nil}
 use Rattle.source_files.specs.Exclusions.{AddsLeft, HasExcluded, Stay, none_stays, stays, goes}
 use Rattle.source_files.specs.Exclusions.HasExcluded.{excluded_here, excluded_behind}
@@ -50,13 +50,6 @@ module _ (patterns : List (List ℕ)) where
   excluded_on folder deeper name names kept is (excluded_behind behind) =
       subst (λ (f : List ℕ). HasExcluded patterns f names) (sym is) behind
 
-  some_name : {folder : List ℕ} {names : List (List ℕ)} → HasExcluded patterns folder names → length names ≢ 0
-  some_name (excluded_here excluded) none = absurd (omega (arith, none))
-  some_name (excluded_behind behind) none = absurd (omega (arith, none))
-
-  pub none_excluded : (folder : List ℕ) → ¬ (HasExcluded patterns folder [])
-  none_excluded folder excluded = some_name excluded refl
-
   -- the first of the names that are left
   pub here_excluded : {A : Type 0} (f : A → List ℕ) (rest : List A) (blank : A) (folder shown : List ℕ)
       → 1 ≤ length rest → shown ≡ folder → IsExcluded patterns shown (f (get_or rest 0 blank))
@@ -85,9 +78,3 @@ module _ (patterns : List (List ℕ)) where
       (λ here. false≢true (sym kept ∙ tells.1
       (subst (λ (l : List ℕ). IsExcluded patterns l (f (get_or rest 0 blank))) (sym shows) here)))
       is (subst (HasExcluded patterns folder) (first_of_rest f rest blank some) excluded)
-
-  -- none is left
-  pub no_more_excluded : {A : Type 0} (f : A → List ℕ) (rest : List A) (folder : List ℕ) → length rest < 1
-      → ¬ (HasExcluded patterns folder (map f rest))
-  no_more_excluded f rest folder end excluded =
-      none_excluded folder (subst (HasExcluded patterns folder) (none_left f rest end) excluded)

@@ -1,9 +1,9 @@
 -- The files below several roots, root by root, and the paths that are named.
 use Rattle.std.proofs.Common.{◌≡◌, ◌<◌, ◌+◌, ℕ, Bool, List, [], ◌∷◌, ◌++◌, map, length, take, drop, get_or, Option, Some}
-use Rattle.std.proofs.Common.{refl, ap, ap₂, sym, add-one, drop-cons, ◌∙◌, subst, string_bytes, arith}
+use Rattle.std.proofs.Common.{refl, ap, ap₂, sym, add-one, drop-cons, ◌∙◌, subst, string_bytes}
 use Rattle.std.specs.List.{AllZip, slice_get}
 use Rattle.std.specs.Option.{option_map}
-use Rattle.std.proofs.lemmas.List.{length-append, map-append, take-append-drop}
+use Rattle.std.proofs.lemmas.List.{map-append, take-append-drop}
 use Rattle.std.proofs.lemmas.Option.{same_Some, slice_get_within}
 use Rattle.basics.proofs.ListLemmas.{zip_push as zip-push}
 use Rattle.source_tree.specs.Files.{SourceFile, IsByPath}
@@ -15,7 +15,7 @@ use Rattle.source_files.specs.RootFaults.{MayStop}
 use Rattle.source_files.specs.declared.load_fault.LoadFault.{LoadFault}
 use Rattle.source_files.specs.declared.load_fault.LoadFault.TheVariants as load
 use Rattle.source_files.specs.Loads.{MayNotLoad}
-use Rattle.source_files.specs.LoadFaults.{MayRefuseTaken, MayStopBelow}
+use Rattle.source_files.specs.LoadFaults.{MayStopBelow}
 
 -- a list that is mapped, parted at an item
 pub parted_at : {A B : Type 0} (f : A → B) (xs : List A) (number : ℕ) (x : A) → number < length xs
@@ -25,16 +25,6 @@ parted_at f xs number x below is =
     ap (map f) (sym (take-append-drop number xs)) ∙ map-append f (take number xs) (drop number xs)
     ∙ ap (λ l. map f (take number xs) ++ map f l)
     (drop-cons xs number x below ∙ ap₂ (λ y l. y ∷ l) (sym is) (ap (λ n. drop n xs) (sym (add-one number))))
-
--- the number of a bad path is one of a file
-pub bad_within : (sources included : List SourceFile) (number : ℕ) → HaveBadPath sources included number
-    → number < length sources + length included
-bad_within sources included number bad =
-    omega (
-      arith,
-      slice_get_within (sources ++ included) number bad.first.file bad.first.numbered,
-      length-append sources included,
-    )
 
 -- and a path that stands there is the one that is bad
 pub bad_path : (sources included : List SourceFile) (number : ℕ) (path : List ℕ)
@@ -136,16 +126,3 @@ module _ (lists : List ℕ → List ℕ → Option Listing → Type 0) (gives : 
   refused_included root roots here (load.BadPath path) below stop = absurd stop
   refused_included root roots here (load.SamePath path) below stop = absurd stop
   refused_included root roots here load.Memory below stop = tt
-
-  -- files that make no tree
-  pub refused_files : (root : List ℕ) (roots : List (List ℕ)) (own : FilesBelow) (others : List FilesBelow)
-      (fault : LoadFault) → AreFilesBelow lists gives leaves_out root own → AreEach roots others
-      → MayRefuseTaken leaves_out own others fault → MayNotLoad lists gives leaves_out root roots fault
-  refused_files root roots own others (load.Unreadable name) below each refuses = absurd refuses.holds
-  refused_files root roots own others load.TooMany below each refuses =
-      record { own = own; others = others; below = below; below_each = each; holds = refuses }
-  refused_files root roots own others (load.BadPath path) below each refuses =
-      record { own = own; others = others; below = below; below_each = each; holds = refuses }
-  refused_files root roots own others (load.SamePath path) below each refuses =
-      record { own = own; others = others; below = below; below_each = each; holds = refuses }
-  refused_files root roots own others load.Memory below each refuses = tt

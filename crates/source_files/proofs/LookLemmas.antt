@@ -4,7 +4,6 @@ use Rattle.std.proofs.Common.{map, length, Option, Result, Ok, Err, refl, sym, a
 use Rattle.std.proofs.Common.{append_assoc, arith, drop, get_or, take}
 use Rattle.std.specs.List.{slice_get}
 use Rattle.std.specs.Option.{IfSome}
-use Rattle.std.proofs.lemmas.List.{append-nil}
 use Rattle.std.proofs.lemmas.List.Elements.{All-nil, All-cons}
 use Rattle.basics.proofs.ListLemmas.{zip_append}
 use Rattle.index_pool.specs.Phase.{AnswersEach, IsLeastFault}
@@ -198,10 +197,3 @@ module _ (gives_looked : (path : List ℕ) → Result Looked LoadFault → Type 
   part_stops paths rest part behind all (load.SamePath name) parts far stop =
       stops_in paths rest part behind all _ parts far stop
   part_stops paths rest part behind all load.Memory parts far stop = tt
-
-  -- none is left
-  pub all_looked : (paths rest : List (List ℕ)) (all : List Looked) → rest ≡ [] → AreLookedFar paths rest all
-      → AreLooked gives_looked paths all
-  all_looked paths rest all none far =
-      let whole = sym (append-nil far.front) ∙ (ap (λ l. far.front ++ l) (sym none) ∙ far.parts) in
-      subst (λ l. AreLooked gives_looked l all) whole far.looked

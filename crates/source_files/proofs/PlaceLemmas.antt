@@ -1,24 +1,17 @@
 -- Files that are asked about: whether each is the one at a place.
 use Rattle.std.proofs.Common.{◌≡◌, ◌∙◌, ◌++◌, ◌+◌, ◌<◌, [], ◌∷◌, sym, ap, subst, ℕ, Bool, true, false, List}
-use Rattle.std.proofs.Common.{None, Some, Option, length, take, true≢false}
-use Rattle.std.specs.Prelude.{All, Contains, slice_get}
+use Rattle.std.proofs.Common.{None, Some, Option, length, take}
+use Rattle.std.specs.Prelude.{All, slice_get}
 use Rattle.std.specs.Option.{IfSome, option_map}
 use Rattle.std.proofs.lemmas.List.{take_more}
 use Rattle.std.proofs.lemmas.List.Elements.{All-push}
 use Rattle.std.proofs.lemmas.Option.{get_or_from_slice_get, same_Some, slice_get_within}
-use Rattle.basics.proofs.FirstLemmas.{contained}
 use Rattle.basics.proofs.ListLemmas.{item_at}
 use Rattle.source_tree.specs.Files.{TreeFile}
 use Rattle.source_files.specs.Places.{IsSaid}
 use Rattle.source_files.specs.Roots.{path_below}
 
 module _ (same : List ℕ → Bool → Type 0) (root : List ℕ) where
-  -- a file that couldn't be read is spared
-  pub unread_spared : (found : Option TreeFile) → option_map (λ (file : TreeFile). file.is_unread) found ≡ Some true
-      → IfSome found (IsSaid same root false)
-  unread_spared None marked = tt
-  unread_spared (Some file) marked = λ read. absurd (true≢false (sym (same_Some file.is_unread true marked) ∙ read))
-
   said_so : (answer : Bool) (file : TreeFile) → file.is_unread ≡ false → same (path_below root file.path) answer
       → IsSaid same root answer file
   said_so true file read answers = (read, answers)
@@ -45,12 +38,6 @@ module _ (same : List ℕ → Bool → Type 0) (root : List ℕ) where
           there.1,
           subst (λ (found : Option TreeFile). IfSome found (IsSaid same root answer)) there.1 said,
         )
-
-    -- it is the one there,
-    pub one_said : IfSome (slice_get tree number) (IsSaid same root true)
-        → (file : TreeFile) × Contains tree file × IsSaid same root true file
-    one_said said = let there = said_there true said in
-        (there.0, contained tree number there.0 there.1, there.2)
 
     -- or one more is spared
     pub one_spared : IfSome (slice_get tree number) (IsSaid same root false)

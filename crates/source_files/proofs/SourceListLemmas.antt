@@ -1,9 +1,16 @@
 -- Lines, one after the other.
 use Rattle.std.proofs.Common.{◌≡◌, ◌∙◌, ◌+◌, ◌<◌, ◌≤◌, ℕ, List, [], ◌∷◌, ◌++◌, length, ap, sym, subst, arith}
-use Rattle.std.proofs.Common.{refl, true, ◌==◌}
+use Rattle.std.proofs.Common.{refl, true, false, cond, Bool, Some, ◌==◌, ◌||◌}
 use Rattle.std.proofs.Common.{drop, get_or, take}
 use Rattle.std.specs.List.{slice_split}
-use Rattle.std.proofs.lemmas.List.{append-nil, drop_more, length-append, take-append-drop}
+use Rattle.std.specs.HashMap.{HashMap, IsEmpty}
+use Rattle.std.specs.Map.{lookup}
+use Rattle.std.specs.Option.{is_some}
+use Rattle.std.specs.Borrow.{Bor}
+use Rattle.std.specs.Str.{bytes_eq}
+use Rattle.std.proofs.Math.Bool.{or-true, or-false}
+use Rattle.std.proofs.lemmas.List.Folds.{list_any-append}
+use Rattle.std.proofs.lemmas.List.{drop_more, length-append, take-append-drop}
 use Rattle.std.proofs.lemmas.List.Splits.{length-slice_split}
 use Rattle.std.proofs.lemmas.List.Sums.{count_by-le-length}
 use Rattle.std.proofs.lemmas.Bool.{eqb-true}
@@ -13,31 +20,22 @@ use Rattle.source_tree.specs.Trees.{max_files}
 use Rattle.source_files.specs.declared.source_list.ListFault.{ListFault}
 use Rattle.source_files.specs.declared.source_list.ListFault.TheVariants.{TooLong, NotUtf8, BadPath, TooMany, Memory}
 use Rattle.source_files.specs.SourceLists.{AddsLine, AreNamed, Listed, MayNotAdd, MayRefuseLines, Name}
-use Rattle.source_files.specs.SourceLists.{adds_none, adds_path, no_line, empty_line, path_line}
-
-name_append : {first : ℕ} {lines behind : List (List ℕ)} {listed more : List Listed} → Name first lines listed
-    → Name (first + length lines) behind more → Name first (lines ++ behind) (listed ++ more)
-name_append {first = first} {behind = behind} {more = more} no_line tail =
-    subst (λ (n : ℕ). Name n behind more) (omega arith) tail
-name_append {behind = behind} {more = more} (empty_line empty rest) tail =
-    empty_line empty (name_append rest (subst (λ (n : ℕ). Name n behind more) (omega arith) tail))
-name_append {behind = behind} {more = more} (path_line good rest) tail =
-    path_line good (name_append rest (subst (λ (n : ℕ). Name n behind more) (omega arith) tail))
+use Rattle.source_files.specs.SourceLists.{AreSeen, is_listed, line_of, adds_none, adds_again, adds_path, no_line, one_more}
 
 -- one more line
 pub named_more : (before : List (List ℕ)) (line : List ℕ) (number : ℕ) (old new : List Listed)
     → number ≡ length before + 1 → AreNamed before old → AddsLine number line old new
     → AreNamed (before ++ line ∷ []) new
-named_more before line number old new is named (adds_none empty) = record {
-  few = named.few;
-  named = subst (λ (l : List Listed). Name 1 (before ++ line ∷ []) l) (append-nil old)
-      (name_append named.named (empty_line empty no_line));
+named_more before line number old new is named adds = record {
+  few = few_more adds;
+  named = one_more named.named (subst (λ (n : ℕ). AddsLine n line old new) is adds);
 }
-named_more before line number old new is named (adds_path few good) = record {
-  few = subst (λ (n : ℕ). n ≤ max_files) (sym (length-append old _)) (omega (arith, few));
-  named = name_append named.named (subst (λ (n : ℕ). Name (1 + length before) (line ∷ [])
-      (record { path = strip_carriage_return line; line = n } ∷ [])) (omega (arith, is)) (path_line good no_line));
-}
+  where
+    few_more : {new : List Listed} → AddsLine number line old new → length new ≤ max_files
+    few_more (adds_none empty) = named.few
+    few_more (adds_again again) = named.few
+    few_more (adds_path few good other) =
+        subst (λ (n : ℕ). n ≤ max_files) (sym (length-append old _)) (omega (arith, few))
 
 -- why it names none
 pub refused : (lines before : List (List ℕ)) (line : List ℕ) (behind : List (List ℕ)) (number : ℕ) (old : List Listed)
@@ -60,6 +58,7 @@ refused lines before line behind number old TooMany are is named why = (
   old,
   record { behind = behind; lines_are = are; named = named; some = why.0 },
   omega (arith, why.1, named.few),
+  why.2,
 )
 refused lines before line behind number old Memory are is named why = tt
 
@@ -114,9 +113,34 @@ pub names_nothing : (number : ℕ) (line bare : List ℕ) (old : List Listed) �
 names_nothing number line bare old is none = adds_none (sym is ∙ no_bytes bare none)
 
 pub names_path : (number : ℕ) (line bare : List ℕ) (old new : List Listed) → bare ≡ strip_carriage_return line
-    → length old < max_files → IsGoodPath bare → new ≡ old ++ record { path = bare; line = number } ∷ []
+    → length old < max_files → IsGoodPath bare → is_listed bare old ≡ false → new ≡ old ++ record { path = bare; line = number } ∷ []
     → AddsLine number line old new
-names_path number line bare old new is few good added =
+names_path number line bare old new is few good other added =
     subst (AddsLine number line old)
     (sym (added ∙ ap (λ (path : List ℕ). old ++ record { path = path; line = number } ∷ []) is))
-    (adds_path few (subst IsGoodPath is good))
+    (adds_path few (subst IsGoodPath is good) (subst (λ (path : List ℕ). is_listed path old ≡ false) is other))
+
+pub names_again : (number : ℕ) (line bare : List ℕ) (old : List Listed) → bare ≡ strip_carriage_return line
+    → is_listed bare old ≡ true → AddsLine number line old old
+names_again number line bare old is again =
+    adds_again (subst (λ (path : List ℕ). is_listed path old ≡ true) is again)
+
+-- a path that is listed is seen from then on
+pub seen_more : {S : Type 0} (old new : HashMap (Bor (List ℕ)) ℕ S) (listed : List Listed) (path : List ℕ) (line : ℕ)
+    → ((other : List ℕ) → line_of new other ≡ cond (bytes_eq path other) (Some line) (line_of old other))
+    → AreSeen old listed → AreSeen new (listed ++ record { path = path; line = line } ∷ [])
+seen_more old new listed path line after seen = λ other.
+    rw (
+      list_any-append (λ (l : Listed). bytes_eq l.path other) listed (record { path = path; line = line } ∷ []),
+      after other,
+    ) (by other (bytes_eq path other))
+  where
+    by : (other : List ℕ) (b : Bool)
+        → is_some (cond b (Some line) (line_of old other)) ≡ (is_listed other listed || (b || false))
+    by other true = sym (or-true (is_listed other listed))
+    by other false = seen other ∙ sym (or-false (is_listed other listed))
+
+-- of nothing nothing is seen
+pub nothing_seen : {S : Type 0} (seen : HashMap (Bor (List ℕ)) ℕ S) (listed : List Listed) → IsEmpty seen → listed ≡ []
+    → AreSeen seen listed
+nothing_seen seen listed empty none = λ path. rw none (ap (λ entries. is_some (lookup (λ (key : Bor (List ℕ)). bytes_eq path key.now) entries)) empty)

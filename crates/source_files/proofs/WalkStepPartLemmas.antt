@@ -4,7 +4,7 @@ use Rattle.std.proofs.Common.{append_assoc, subst, arith}
 use Rattle.std.specs.List.{AllZip, slice_get}
 use Rattle.std.specs.Option.{IfSome}
 use Rattle.std.specs.Prelude.{IfOk}
-use Rattle.std.proofs.lemmas.List.{append-nil, map-append}
+use Rattle.std.proofs.lemmas.List.{map-append}
 use Rattle.basics.proofs.ListLemmas.{zip_append}
 use Rattle.index_pool.specs.Phase.{AnswersEach}
 use Rattle.source_files.specs.declared.found.Found.{Found}
@@ -45,9 +45,3 @@ module _ (lists : List ℕ → Option Listing → Type 0) where
         (subst (AllZip (Has lists) (had.front ++ part)) (sym (map-append had_of all more))
         (zip_append (Has lists) had.front part (map had_of all) (map had_of more) had.have here));
   }
-
-  pub all_had : (folders rest : List (List ℕ)) (all : List Found) → rest ≡ [] → HaveBut folders rest all
-      → HaveEach lists folders all
-  all_had folders rest all none had =
-      let whole = sym (append-nil had.front) ∙ (ap (λ l. had.front ++ l) (sym none) ∙ had.parts) in
-      subst (λ l. HaveEach lists l all) whole had.have

@@ -1,20 +1,26 @@
 //! A list of sources: a path on each line.
 
-ghost use Rattle.std.specs.Prelude.{◌≡◌, ◌≤◌, ◌==◌, ◌+◌, ◌++◌, ◌∷◌, [], IfErr, MatchResult, OnOk, length};
+ghost use Rattle.std.specs.Prelude.{◌≡◌, ◌≤◌, ◌==◌, ◌+◌, ◌++◌, ◌∷◌, [], ℕ, List, IfErr, MatchResult, OnOk, Some, cond};
+ghost use Rattle.std.specs.Prelude.{length};
 ghost use Rattle.std.specs.List.{count_by};
+ghost use Rattle.std.specs.Option.{is_some};
+ghost use Rattle.std.specs.Str.{bytes_eq};
 ghost use Rattle.std.specs.Str.Lines.{strip_carriage_return};
 ghost use Rattle.source_files.specs.SourceLists.{
   AddsLine,
   AreListedIn,
   AreNamed,
+  AreSeen,
   MayNotAdd,
   MayRefuseLines,
   MayRefuseList,
+  line_of,
   lines_of,
 };
 
 use source_tree::{MAX_FILES, is_good_path};
 use std::alloc::{AllocError, Global};
+use std::collections::HashMap;
 use std::marker::Model;
 use thiserror::Error;
 
@@ -53,7 +59,7 @@ pub enum ListFault {
     /// The line with this number, from 1, is no good path. The first of them.
     #[error("line {0} isn't a good path")]
     BadPath(usize),
-    /// It names more paths than a tree has files.
+    /// It names more different paths than a tree has files.
     #[error("a list names more than {most} paths", most = MAX_FILES)]
     TooMany,
     /// Memory ran out.
@@ -96,6 +102,22 @@ fn line_at(front: &[u8]) -> usize
     front.iter().filter(|byte| ends_line(**byte)).count() + 1
 }
 
+/// Whether a path is one of those that are listed.
+fn is_seen(seen: &HashMap<&str, usize>, path: &str) -> bool
+    ensures { result ≡ is_some (line_of seen.now path.now) }
+{
+    seen.contains_key(path)
+}
+
+/// Adds a path to those that are listed.
+fn see<'t>(seen: &mut HashMap<&'t str, usize>, line: usize, path: &'t str) -> Result<(), AllocError>
+    ensures { OnOk result ((other : List ℕ) → line_of seen.new other
+        ≡ cond (bytes_eq path.now other) (Some line) (line_of seen.old other)) }
+{
+    seen.insert(path, line)?;
+    Ok(())
+}
+
 /// Adds a path of a line with a number.
 fn push_path(
     alloc: Global,
@@ -110,18 +132,24 @@ fn push_path(
     Ok(())
 }
 
-/// Adds the path that a line with a number names; nothing if the line is empty.
-fn add_line(
+/// Adds the path that a line with a number names; nothing if the line is empty, or its path is listed already.
+fn add_line<'t>(
     alloc: Global,
     paths: &mut Vec<ListedPath>,
+    seen: &mut HashMap<&'t str, usize>,
     line: usize,
-    text: &str,
+    text: &'t str,
 ) -> Result<(), ListFault>
+    requires { AreSeen seen.old paths.old.items }
+    ensures seen { OnOk result (AreSeen seen.new paths.new.items) }
     ensures added { OnOk result (AddsLine line text.now paths.old.items paths.new.items) }
     ensures refused { IfErr result (MayNotAdd line text.now paths.old.items) }
 {
     let bare = bare_line(text);
     if bare.is_empty() {
+        return Ok(());
+    }
+    if is_seen(seen, bare) {
         return Ok(());
     }
     if paths.len() >= MAX_FILES {
@@ -130,6 +158,7 @@ fn add_line(
     if !is_good_path(bare) {
         return Err(ListFault::BadPath(line));
     }
+    see(seen, line, bare)?;
     push_path(alloc, paths, line, bare)?;
     Ok(())
 }
@@ -141,16 +170,17 @@ fn paths_in(alloc: Global, text: &str) -> Result<Vec<ListedPath>, ListFault>
         (MayRefuseLines (lines_of text.now)) }
 {
     let mut paths = Vec::new(alloc);
+    let mut seen = HashMap::new(alloc);
     let mut number: usize = 0;
     for line in text.split('\n') {
         number += 1;
-        add_line(alloc, &mut paths, number, line)?;
+        add_line(alloc, &mut paths, &mut seen, number, line)?;
     }
     Ok(paths)
 }
 
-/// The paths that the bytes of a list name, a line each, in their order. A line ends with `\n` or `\r\n`, and an empty
-/// one names nothing.
+/// The paths that the bytes of a list name, a line each, in their order. A line ends with `\n` or `\r\n`. An empty one
+/// names nothing, and one with the path of a line before it nothing more.
 ///
 /// The first of these: `TooLong`; `NotUtf8`; then line by line `TooMany` and `BadPath`. `Memory` may come at any step.
 pub fn listed_paths(alloc: Global, bytes: &[u8]) -> Result<Vec<ListedPath>, ListFault>

@@ -6,10 +6,14 @@ use std::alloc::Global;
 use std::test::Fail;
 
 // The second row reads: the first line ends with `\r\n`, the second is empty, and the third has no end.
-const NAMED: [(&[u8], &str); 7] = [
+const NAMED: [(&[u8], &str); 8] = [
     (b"", ""),
     (b"a.proto\r\n\nb/c.proto", "1:a.proto 3:b/c.proto "),
-    (b"a.proto\na.proto\n", "1:a.proto 2:a.proto "),
+    (b"a.proto\na.proto\n", "1:a.proto "),
+    (
+        b"a.proto\nb.proto\na.proto\r\nc.proto",
+        "1:a.proto 2:b.proto 4:c.proto ",
+    ),
     (b"\n\r\n\r\n", ""),
     (b" .proto\n", "1: .proto "),
     (b"\xc3\xa9.proto\n", "1:é.proto "),

@@ -9,8 +9,7 @@ use Rattle.std.proofs.lemmas.List.Elements.{All-head, All-tail, All-set, All-get
 use Rattle.std.specs.List.{range_with_len}
 use Rattle.index_pool.specs.declared.core_machine.worker.CoreWorker.{CoreWorker}
 use Rattle.index_pool.specs.declared.core_machine.Event.TheVariants.{Seed, PopEmpty}
-use Rattle.index_pool.specs.declared.workers.TheConstants.{MAX_INPUTS}
-use Rattle.index_pool.specs.Workers.{most_workers}
+use Rattle.index_pool.specs.Workers.{most_inputs, most_workers}
 use Rattle.index_pool.specs.CoreMachine.{WorkerState, CoreState, idle, core_start, worker_at, queue_of, IsReady}
 use Rattle.index_pool.specs.CoreMachine.{MayHappen, queued, unqueued, taken, noted, with_worker, after_take}
 use Rattle.index_pool.specs.CoreMachine.{state_after}
@@ -248,7 +247,7 @@ map_idle (w ∷ ws) all =
     let tail = map_idle ws (All-tail (λ v. worker_state v ≡ idle) w ws all) in cc
 
 pub start_kept : (inputs workers : ℕ) (ws : List CoreWorker) → 0 < workers → workers ≤ most_workers
-    → inputs ≤ MAX_INPUTS → length ws ≡ workers → All (λ w. worker_state w ≡ idle) ws → All (HasRoom inputs) ws
+    → inputs ≤ most_inputs → length ws ≡ workers → All (λ w. worker_state w ≡ idle) ws → All (HasRoom inputs) ws
     → IsCoreInvariant inputs 0 ws × (core_state inputs 0 ws ≡ core_start inputs workers)
 start_kept inputs workers ws some few few_inputs count idles roomy =
     let all : map worker_state ws ≡ replicate workers idle = map_idle ws idles ∙ ap (λ n. replicate n idle) count in

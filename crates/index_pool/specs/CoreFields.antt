@@ -3,8 +3,7 @@ use Rattle.std.specs.Prelude.{◌≡◌, ℕ, ◌+◌, ◌<◌, ◌≤◌, List,
 use Rattle.std.specs.VecDeque.{deque_capacity}
 use Rattle.std.specs.List.{range_with_len}
 use Rattle.index_pool.specs.CoreMachine.{WorkerState, CoreState}
-use Rattle.index_pool.specs.Workers.{most_workers}
-use Rattle.index_pool.specs.declared.workers.TheConstants.{MAX_INPUTS}
+use Rattle.index_pool.specs.Workers.{most_inputs, most_workers}
 use Rattle.index_pool.specs.declared.core_machine.worker.CoreWorker.{CoreWorker}
 
 abbrev pub worker_state : CoreWorker → WorkerState
@@ -38,6 +37,6 @@ pub record IsSound (s : CoreState) : Type 0 where
 pub record IsCoreInvariant (inputs seeded : ℕ) (workers : List CoreWorker) : Type 0 where
   pub some_worker : 0 < length workers
   pub few_workers : length workers ≤ most_workers
-  pub few_inputs : inputs ≤ MAX_INPUTS
+  pub few_inputs : inputs ≤ most_inputs
   pub roomy : All (HasRoom inputs) workers
   pub sound : IsSound (core_state inputs seeded workers)

@@ -14,13 +14,6 @@ blame_same : {A : Type 0} (o : Option A) (fault : WireFault) (f g : A → WireFa
 blame_same None fault f g h = refl
 blame_same (Some x) fault f g h = h x refl
 
--- the fault of a part is that of the whole where the part gives nothing
-pub blame_inner : {A : Type 0} (o : Option A) (e due : WireFault) (next : A → WireFault) → Fails e o
-    → (e ≡ Memory) ⊎ (e ≡ due) → (e ≡ Memory) ⊎ (e ≡ blame o due next)
-blame_inner o e due next (inl memory) is = inl memory
-blame_inner o e due next (inr none) (inl memory) = inl memory
-blame_inner o e due next (inr none) (inr is) = inr (is ∙ sym (ap (λ p. blame p due next) none))
-
 -- of a message that comes at most once
 pub only_again : {A : Type 0} (faults : (end : ℕ) → List ℕ → WireFault) (start end : ℕ) (earlier : Option A)
     (bytes : List ℕ) → is_some earlier ≡ true

@@ -143,7 +143,3 @@ none_there [] e = refl
 none_there (b ∷ text) e =
     let some : (length (b ∷ text) == 0) ≡ false = grind (arith, nat_tests) in
     let clash : true ≡ false = sym e ∙ some in absurd cc
-
-pub one_there : (text : List ℕ) → (length text == 0) ≡ false → Texts (text ∷ []) ≡ Texts (unless_empty text)
-one_there [] e = absurd cc
-one_there (b ∷ text) e = refl

@@ -32,10 +32,6 @@ not_true : (b : Bool) → (b ≡ true → b ≡ false) → b ≡ false
 not_true true h = h refl
 not_true false h = refl
 
-both_not : (a b : Bool) → b ≡ false → (not a && not b) ≡ not a
-both_not true b e = refl
-both_not false b e = rw e refl
-
 pub filter_alike : {X : Type 0} (p q : X → Bool) (xs : List X) → All (λ x. p x ≡ q x) xs → filter p xs ≡ filter q xs
 filter_alike p q [] all = refl
 filter_alike p q (x ∷ xs) all =

@@ -46,12 +46,12 @@ of_answer (Misses miss) = of_miss miss
 
 -- ---- they don't nest deep
 
-deep : {X : Type 0} (value : X → Data) (n : ℕ) → ((x : X) → depth (value x) ≤ n) → (xs : List X)
+pub deep : {X : Type 0} (value : X → Data) (n : ℕ) → ((x : X) → depth (value x) ≤ n) → (xs : List X)
     → items_depth (items_of (map value xs)) ≤ n
 deep value n few [] = omega arith
 deep value n few (x ∷ xs) = omega (arith, few x, deep value n few xs)
 
-deep_entry : (entry : SymbolInformation) → depth (entry_value entry) ≤ 2
+pub deep_entry : (entry : SymbolInformation) → depth (entry_value entry) ≤ 2
 deep_entry entry = omega (arith, deep string 0 (λ text. omega arith) entry.documentation)
 
 pub shallow : (answer : Answer) → depth (answer_value answer) ≤ max_depth

@@ -16,7 +16,6 @@ mod InnermostLemmas
 -- Outlines: the order, the symbols that a document defines, and symbols around one
 mod OutlineLemmas
 -- What is answered where nothing is found
-mod OutcomeLemmas
 -- A run of a table: what compares as equal, which stands together where the table rises
 mod RunLemmas
 -- Symbol entries and their places

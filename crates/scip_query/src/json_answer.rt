@@ -300,13 +300,16 @@ pub fn json_line_of(alloc: Global, value: &Value) -> Result<String, AllocError>
     Ok(text)
 }
 
-/// Appends the line of a value without floats.
+/// Appends the line of a value without floats. It is read back, if the value doesn't nest deep.
 pub fn push_json_line(alloc: Global, text: &mut String, value: &Value) -> Result<(), AllocError>
     requires { has_float (view value.now) ≡ false }
-    ensures { OnOk result (string_bytes text.new ≡ string_bytes text.old ++ json_line (view value.now)) }
+    ensures text { OnOk result (string_bytes text.new ≡ string_bytes text.old ++ json_line (view value.now)) }
+    ensures reads_back { OnOk result (depth (view value.now) ≤ max_depth
+        → IsReadBack (json_line (view value.now)) (view value.now)) }
 {
     let line = json_line_of(alloc, value)?;
-    text.push_str(line.as_str())
+    text.push_str(line.as_str())?;
+    Ok(())
 }
 
 /// The line of an error.

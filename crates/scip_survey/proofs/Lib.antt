@@ -8,3 +8,7 @@ mod NearLemmas
 mod NearestNameLemmas
 -- The same of what is wrong
 mod FlawFormLemmas
+-- None of them nests deep
+mod ShallowLemmas
+-- Records are read back one after another
+mod ReadBackLemmas

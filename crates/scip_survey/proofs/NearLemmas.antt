@@ -1,24 +1,21 @@
 -- Names, and the nearest of them.
 use Rattle.std.proofs.Common.{◌≡◌, ℕ, ◌+◌, ◌<◌, ◌&&◌, nat_le, min, List, []}
-use Rattle.std.proofs.Common.{◌∷◌, ◌++◌, length, map, take, get_or, refl, sym, ◌∙◌, ap, ap₂, arith}
+use Rattle.std.proofs.Common.{◌∷◌, ◌++◌, length, take, get_or, refl, sym, ◌∙◌, ap, ap₂, arith}
 use Rattle.std.specs.List.{flat_map, list_all}
 use Rattle.std.proofs.lemmas.Bool.Decides.{nat_tests}
-use Rattle.std.proofs.lemmas.List.{map-append}
+use Rattle.std.proofs.lemmas.List.Concat.{flat_map-append}
 use Rattle.std.proofs.lemmas.List.Folds.{list_all_more}
 use Rattle.scip_records.specs.declared.records.Document.{Document}
-use Rattle.scip_records.specs.declared.records.SymbolInformation.{SymbolInformation}
-
-abbrev pub shown : SymbolInformation → List ℕ
-shown entry = entry.display_name
+use Rattle.scip_survey.specs.Near.{name_in}
 
 -- the names of all documents
 pub names_all : (documents : List Document)
-    → flat_map (λ (d : Document). map shown d.symbols) documents
-    ≡ map shown (flat_map (λ (d : Document). d.symbols) documents)
+    → flat_map (λ (d : Document). flat_map name_in d.symbols) documents
+    ≡ flat_map name_in (flat_map (λ (d : Document). d.symbols) documents)
 names_all [] = refl
 names_all (d ∷ documents) =
-    ap (λ l. map shown d.symbols ++ l) (names_all documents)
-    ∙ sym (map-append shown d.symbols (flat_map (λ (e : Document). e.symbols) documents))
+    ap (λ l. flat_map name_in d.symbols ++ l) (names_all documents)
+    ∙ sym (flat_map-append name_in d.symbols (flat_map (λ (e : Document). e.symbols) documents))
 
 min_within : (a b n : ℕ) → nat_le n (min a b) ≡ (nat_le n a && nat_le n b)
 min_within a b n = grind (arith, nat_tests)

@@ -5,7 +5,7 @@ use Rattle.std.specs.Fmt.{decimal}
 use Rattle.serde_json.specs.Data.{Data, object, member, no_members}
 use Rattle.scip_records.specs.declared.records.Index.{Index}
 use Rattle.scip_records.specs.declared.records.Document.{Document}
-use Rattle.scip_query.specs.JsonAnswers.{count_value, json_line}
+use Rattle.scip_query.specs.JsonAnswers.{IsReadBack, count_value, json_line}
 use Rattle.scip_query.specs.References.{is_definition}
 use Rattle.scip_survey.specs.declared.counts.Counts.{Counts}
 
@@ -58,3 +58,7 @@ counts_value c = object
 abbrev pub counts_text : (json : Bool) → Counts → List ℕ
 counts_text true c = json_line (counts_value c)
 counts_text false c = counts_lines c
+
+-- the line of counts in JSON is read back as their value
+abbrev pub ReadsBack : Counts → Type 0
+ReadsBack c = IsReadBack (json_line (counts_value c)) (counts_value c)

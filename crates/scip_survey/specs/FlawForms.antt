@@ -4,7 +4,7 @@ use Rattle.std.specs.Fmt.{decimal}
 use Rattle.std.specs.List.{flat_map}
 use Rattle.serde_json.specs.Data.{Data, array, member, no_items, no_members, object, string}
 use Rattle.scip_records.specs.declared.records.Occurrence.{Occurrence}
-use Rattle.scip_query.specs.JsonAnswers.{json_line, range_value}
+use Rattle.scip_query.specs.JsonAnswers.{IsReadBack, json_line, range_value}
 use Rattle.scip_survey.specs.Flaws.{Flawed}
 use Rattle.scip_survey.specs.declared.flaws.Flaw.{Flaw}
 use Rattle.scip_survey.specs.declared.flaws.Flaw.TheVariants.{RepeatedPath, NoLanguage, NoUnit, RangeBackwards}
@@ -55,3 +55,7 @@ flaw_text false f = flaw_line f
 
 abbrev pub flaws_text : (json : Bool) → List Flawed → List ℕ
 flaws_text json flaws = flat_map (flaw_text json) flaws
+
+-- the line of what is wrong in JSON is read back as its value
+pub record ReadsBack (f : Flawed) : Type 0 where
+  pub back : IsReadBack (json_line (flaw_value f)) (flaw_value f)

@@ -1,18 +1,20 @@
 -- What is wrong with an index: what it lacks, or says against itself. (`scip.proto`, Index. The names are this project's
 -- own.)
-use Rattle.std.specs.Prelude.{ℕ, ◌==◌, Bool, true, false, not, ◌&&◌, ◌||◌, nat_eq, nat_lt, cond, List, [], ◌∷◌, ◌++◌}
+use Rattle.std.specs.Prelude.{ℕ, ◌==◌, Bool, true, false, not, ◌&&◌, ◌||◌, nat_eq, cond, List, [], ◌∷◌, ◌++◌}
 use Rattle.std.specs.Prelude.{length, codes, Option, None, Some}
 use Rattle.std.specs.List.{ends_with, enumerate_from, find, flat_map}
+use Rattle.std.specs.Option.{is_none}
+use Rattle.std.specs.Ordering.{is_lt}
 use Rattle.scip_records.specs.Range.{RangeNumbers}
 use Rattle.scip_records.specs.declared.records.Index.{Index}
 use Rattle.scip_records.specs.declared.records.Occurrence.{Occurrence}
 use Rattle.scip_query.specs.BySymbol.{entry_in, references_in}
+use Rattle.scip_query.specs.Positions.{end_of, position_cmp, start_of}
 use Rattle.scip_query.specs.References.{is_definition}
 use Rattle.scip_query.specs.Sites.{Numbered, document_named, numbered_documents}
 use Rattle.scip_query.specs.Tables.{defines_listed}
 use Rattle.scip_query.specs.declared.place.Place.{Place}
 use Rattle.scip_pages.specs.Columns.{unit_of}
-use Rattle.scip_pages.specs.declared.columns.ColumnUnit.{ColumnUnit}
 use Rattle.scip_survey.specs.declared.flaws.Flaw.{Flaw}
 use Rattle.scip_survey.specs.declared.flaws.Flaw.TheVariants.{RepeatedPath, NoLanguage, NoUnit, RangeBackwards}
 use Rattle.scip_survey.specs.declared.flaws.Flaw.TheVariants.{RangeOutside, NoEntry, TwoDefinitions}
@@ -33,39 +35,22 @@ is_other d (Some first) = not (first.number == d.number)
 abbrev pub is_repeated : Index → Numbered → Bool
 is_repeated index d = is_other d (document_named index d.document.relative_path)
 
-abbrev pub lacks_unit : Option ColumnUnit → Bool
-lacks_unit None = true
-lacks_unit (Some unit) = false
-
 -- ---- an occurrence
 
 -- a range ends before it begins
 abbrev pub is_backwards : RangeNumbers → Bool
-is_backwards r = nat_lt r.end_line r.start_line || ((r.end_line == r.start_line) && nat_lt r.end_column r.start_column)
+is_backwards r = is_lt (position_cmp (end_of r) (start_of r))
 
--- a range begins before another, or ends after it
-abbrev pub begins_before : RangeNumbers → RangeNumbers → Bool
-begins_before r whole =
-    nat_lt r.start_line whole.start_line
-    || ((r.start_line == whole.start_line) && nat_lt r.start_column whole.start_column)
-
-abbrev pub ends_after : RangeNumbers → RangeNumbers → Bool
-ends_after r whole =
-    nat_lt whole.end_line r.end_line || ((whole.end_line == r.end_line) && nat_lt whole.end_column r.end_column)
-
--- an occurrence is not in the range that is said to enclose it
+-- an occurrence is not in the range that is said to enclose it: it begins before that, or ends after it
 abbrev pub is_outside_of : RangeNumbers → Option RangeNumbers → Bool
 is_outside_of r None = false
-is_outside_of r (Some whole) = begins_before r whole || ends_after r whole
+is_outside_of r (Some whole) =
+    is_lt (position_cmp (start_of r) (start_of whole)) || is_lt (position_cmp (end_of whole) (end_of r))
 
 -- a symbol that an index has to say something of: not the empty one, and not that of a namespace, whose last descriptor
 -- ends with `/` (`scip.proto`, Symbol)
 abbrev pub wants_entry : List ℕ → Bool
 wants_entry symbol = not (length symbol == 0) && not (ends_with nat_eq symbol (codes "/"))
-
-abbrev pub is_none : {X : Type 0} → Option X → Bool
-is_none None = true
-is_none (Some x) = false
 
 -- no entry has the symbol of an occurrence
 abbrev pub lacks_entry : Index → Numbered → Occurrence → Bool
@@ -102,7 +87,7 @@ abbrev pub document_flaws : Index → Numbered → List Flawed
 document_flaws index d =
     flawed_if (is_repeated index d) RepeatedPath d None
     ++ flawed_if (length d.document.language == 0) NoLanguage d None
-    ++ flawed_if (lacks_unit (unit_of d.document.position_encoding)) NoUnit d None
+    ++ flawed_if (is_none (unit_of d.document.position_encoding)) NoUnit d None
     ++ flat_map (occurrence_flaws index d) (enumerate_from 0 d.document.occurrences)
 
 abbrev pub flaws_of : Index → List Flawed

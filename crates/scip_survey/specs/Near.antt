@@ -1,6 +1,6 @@
 -- Of the names that an index shows symbols by, the one that is nearest to a text.
-use Rattle.std.specs.Prelude.{ℕ, ◌==◌, nat_eq, nat_le, List, [], ◌∷◌, length, map, Option}
-use Rattle.std.specs.List.{find, list_all, slice_split}
+use Rattle.std.specs.Prelude.{ℕ, ◌==◌, nat_eq, nat_le, cond, List, [], ◌∷◌, length, Option}
+use Rattle.std.specs.List.{find, flat_map, list_all, slice_split}
 use Rattle.std.specs.Str.{chars}
 use Rattle.strsim.specs.Edits.{levenshtein_row}
 use Rattle.scip_records.specs.declared.records.Index.{Index}
@@ -16,9 +16,13 @@ abbrev pub nearest_of : (text : List ℕ) → List (List ℕ) → Option (List �
 nearest_of text names =
     find (λ name. list_all (λ other. nat_le (distance text name) (distance text other)) names) names
 
+-- the name that an entry shows its symbol by, if it has one
+abbrev pub name_in : SymbolInformation → List (List ℕ)
+name_in entry = cond (length entry.display_name == 0) [] (entry.display_name ∷ [])
+
 -- the names of all entries
 abbrev pub names_of : Index → List (List ℕ)
-names_of index = map (λ (entry : SymbolInformation). entry.display_name) (all_entries index)
+names_of index = flat_map name_in (all_entries index)
 
 -- the last of some texts, or another if there is none
 abbrev pub last_of : (otherwise : List ℕ) → List (List ℕ) → List ℕ

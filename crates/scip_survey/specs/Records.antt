@@ -7,7 +7,8 @@ use Rattle.scip_records.specs.declared.records.Metadata.{Metadata}
 use Rattle.scip_records.specs.declared.records.Document.{Document}
 use Rattle.scip_records.specs.declared.records.Occurrence.{Occurrence}
 use Rattle.scip_records.specs.declared.records.SymbolInformation.{SymbolInformation}
-use Rattle.scip_query.specs.JsonAnswers.{json_line}
+use Rattle.scip_query.specs.JsonAnswers.{IsReadBack, json_line}
+use Rattle.serde_json.specs.Data.{Data}
 use Rattle.scip_survey.specs.RecordLines.{document_line, external_line, metadata_line, occurrence_line, symbol_line}
 use Rattle.scip_survey.specs.RecordValues.{document_value, external_value, metadata_value, occurrence_value}
 use Rattle.scip_survey.specs.RecordValues.{symbol_value}
@@ -40,17 +41,21 @@ record_line (OfOccurrence path occurrence) = occurrence_line path occurrence
 record_line (OfSymbol path entry) = symbol_line path entry
 record_line (OfExternal entry) = external_line entry
 
-abbrev pub record_json : Record → List ℕ
-record_json (OfIndex metadata) = json_line (metadata_value metadata)
-record_json (OfDocument document) = json_line (document_value document)
-record_json (OfOccurrence path occurrence) = json_line (occurrence_value path occurrence)
-record_json (OfSymbol path entry) = json_line (symbol_value path entry)
-record_json (OfExternal entry) = json_line (external_value entry)
+abbrev pub record_value : Record → Data
+record_value (OfIndex metadata) = metadata_value metadata
+record_value (OfDocument document) = document_value document
+record_value (OfOccurrence path occurrence) = occurrence_value path occurrence
+record_value (OfSymbol path entry) = symbol_value path entry
+record_value (OfExternal entry) = external_value entry
 
 abbrev pub record_text : (json : Bool) → Record → List ℕ
-record_text true record_ = record_json record_
+record_text true record_ = json_line (record_value record_)
 record_text false record_ = record_line record_
 
 -- the lines of records
 abbrev pub records_text : (json : Bool) → List Record → List ℕ
 records_text json records = flat_map (record_text json) records
+
+-- the line of a record in JSON is read back as its value
+pub record ReadsBack (told : Record) : Type 0 where
+  pub back : IsReadBack (json_line (record_value told)) (record_value told)

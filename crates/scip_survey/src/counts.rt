@@ -1,6 +1,6 @@
 //! How much an index has.
 
-ghost use Rattle.std.specs.Prelude.{◌≡◌, ◌+◌, IfOk};
+ghost use Rattle.std.specs.Prelude.{◌≡◌, ◌+◌, IfOk, IsTrue};
 ghost use Rattle.std.specs.String.{string_bytes};
 ghost use Rattle.serde_json.specs.View.{view};
 ghost use Rattle.scip_survey.specs.Counts as spec;
@@ -122,7 +122,8 @@ fn counts_lines(alloc: Global, counts: &Counts) -> Result<String, AllocError>
 
 /// A line for each count, or all of them as an object of JSON on one line.
 pub fn counts_text(alloc: Global, json: bool, counts: &Counts) -> Result<String, AllocError>
-    ensures { IfOk result (λ text. string_bytes text ≡ spec.counts_text json counts.now) }
+    ensures text { IfOk result (λ text. string_bytes text ≡ spec.counts_text json counts.now) }
+    ensures reads_back { IfOk result (λ _. IsTrue json → spec.ReadsBack counts.now) }
 {
     if json {
         json_line_of(alloc, &counts_value(alloc, counts)?)

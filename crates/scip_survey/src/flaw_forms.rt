@@ -1,7 +1,7 @@
 //! What is wrong with an index, as lines for people, and in JSON.
 
-ghost use Rattle.std.specs.Prelude.{◌≡◌, ◌++◌, IfOk, OnOk, map, option_copied};
-ghost use Rattle.std.specs.List.{flat_map};
+ghost use Rattle.std.specs.Prelude.{◌≡◌, ◌++◌, IfOk, IsTrue, OnOk, map, option_copied};
+ghost use Rattle.std.specs.List.{All};
 ghost use Rattle.std.specs.String.{string_bytes};
 ghost use Rattle.serde_json.specs.View.{view};
 ghost use Rattle.scip_survey.specs.FlawForms as spec;
@@ -114,8 +114,9 @@ fn push_flaw(
     json: bool,
     flawed: &Flawed<'_>,
 ) -> Result<(), AllocError>
-    ensures { OnOk result (string_bytes text.new ≡ string_bytes text.old
+    ensures text { OnOk result (string_bytes text.new ≡ string_bytes text.old
         ++ spec.flaw_text json (flawed_view flawed.now)) }
+    ensures reads_back { OnOk result (IsTrue json → spec.ReadsBack (flawed_view flawed.now)) }
 {
     if json {
         push_json_line(alloc, text, &flaw_value(alloc, flawed)?)
@@ -126,7 +127,8 @@ fn push_flaw(
 
 /// What is wrong with an index, each on a line, in JSON or for people.
 pub fn flaws_text(alloc: Global, json: bool, flaws: &[Flawed<'_>]) -> Result<String, AllocError>
-    ensures { IfOk result (λ text. string_bytes text ≡ spec.flaws_text json (map flawed_view flaws.now)) }
+    ensures text { IfOk result (λ text. string_bytes text ≡ spec.flaws_text json (map flawed_view flaws.now)) }
+    ensures reads_back { IfOk result (λ _. IsTrue json → All spec.ReadsBack (map flawed_view flaws.now)) }
 {
     let mut text = String::new(alloc);
     for flawed in flaws {

@@ -2,13 +2,16 @@
 
 ghost use Rattle.std.specs.Prelude.{◌≡◌, ◌++◌, IfOk, OnOk, map, option_copied};
 ghost use Rattle.std.specs.List.{enumerate_from, find, flat_map};
+ghost use Rattle.std.specs.Option.{is_none};
+ghost use Rattle.std.specs.Ordering.{is_lt};
+ghost use Rattle.scip_query.specs.Positions.{end_of, position_cmp, start_of};
 ghost use Rattle.scip_query.specs.Tables.{defines_listed};
 ghost use Rattle.scip_pages.specs.Columns.{unit_of};
 ghost use Rattle.scip_survey.specs.Flaws as spec;
 ghost use Rattle.scip_survey.specs.Views.{document_view, flawed_view};
 
 use scip_pages::{is_definition, unit_of};
-use scip_query::{Place, Queries, defines_listed};
+use scip_query::{Place, Position, Queries, defines_listed};
 use scip_records::{Document, Occurrence, Range};
 use std::alloc::{AllocError, Global};
 
@@ -84,36 +87,43 @@ fn is_repeated(looked: Looked<'_>) -> bool
 
 /// Whether the document doesn't say what its columns count.
 fn lacks_unit(document: &Document) -> bool
-    ensures { result ≡ spec.lacks_unit (unit_of document.now.position_encoding) }
+    ensures { result ≡ is_none (unit_of document.now.position_encoding) }
 {
-    match unit_of(document.position_encoding) {
-        Some(_) => false,
-        None => true,
+    unit_of(document.position_encoding).is_none()
+}
+
+/// Where a range begins.
+fn start_of(range: Range) -> Position
+    ensures { result ≡ start_of range }
+{
+    Position {
+        line: range.start_line(),
+        column: range.start_column(),
     }
+}
+
+/// Where it ends.
+fn end_of(range: Range) -> Position
+    ensures { result ≡ end_of range }
+{
+    Position {
+        line: range.end_line(),
+        column: range.end_column(),
+    }
+}
+
+/// Whether a position is before another.
+fn is_before(a: Position, b: Position) -> bool
+    ensures { result ≡ is_lt (position_cmp a b) }
+{
+    a.line.cmp(&b.line).then(a.column.cmp(&b.column)).is_lt()
 }
 
 /// Whether a range ends before it begins.
 fn is_backwards(range: Range) -> bool
     ensures { result ≡ spec.is_backwards range }
 {
-    range.end_line() < range.start_line()
-        || (range.end_line() == range.start_line() && range.end_column() < range.start_column())
-}
-
-/// Whether a range begins before another.
-fn begins_before(range: Range, whole: Range) -> bool
-    ensures { result ≡ spec.begins_before range whole }
-{
-    range.start_line() < whole.start_line()
-        || (range.start_line() == whole.start_line() && range.start_column() < whole.start_column())
-}
-
-/// Whether it ends after it.
-fn ends_after(range: Range, whole: Range) -> bool
-    ensures { result ≡ spec.ends_after range whole }
-{
-    whole.end_line() < range.end_line()
-        || (whole.end_line() == range.end_line() && whole.end_column() < range.end_column())
+    is_before(end_of(range), start_of(range))
 }
 
 /// Whether an occurrence isn't in the range that is said to enclose it.
@@ -122,7 +132,8 @@ fn is_outside(occurrence: &Occurrence) -> bool
 {
     match occurrence.enclosing_range {
         Some(whole) => {
-            begins_before(occurrence.range, whole) || ends_after(occurrence.range, whole)
+            is_before(start_of(occurrence.range), start_of(whole))
+                || is_before(end_of(whole), end_of(occurrence.range))
         }
         None => false,
     }
@@ -143,10 +154,7 @@ fn lacks_entry(looked: Looked<'_>, occurrence: &Occurrence) -> bool
     if !wants_entry(symbol) {
         return false;
     }
-    match looked.queries.entry_in(looked.number, symbol) {
-        Some(_) => false,
-        None => true,
-    }
+    looked.queries.entry_in(looked.number, symbol).is_none()
 }
 
 /// Whether a place is another one than this.

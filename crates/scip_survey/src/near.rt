@@ -2,16 +2,26 @@
 
 ghost use Rattle.std.specs.Prelude.{◌≡◌, ◌<◌, ◌^◌, ◌++◌, ◌==◌, ℕ, List, nat_le, IfOk, OnOk, map, min};
 ghost use Rattle.std.specs.Borrow.{Bor};
-ghost use Rattle.std.specs.List.{list_all, slice_split};
+ghost use Rattle.std.specs.List.{flat_map, list_all, slice_split};
 ghost use Rattle.std.specs.Option.{option_map};
-ghost use Rattle.scip_records.specs.declared.records.SymbolInformation.{SymbolInformation};
 ghost use Rattle.scip_query.specs.CommandViews.{text_of};
-ghost use Rattle.scip_survey.specs.Near.{distance, last_of, names_of, nearest_name, nearest_of};
+ghost use Rattle.scip_survey.specs.Near.{distance, last_of, name_in, names_of, nearest_name, nearest_of};
 
 use scip_query::Queries;
 use scip_records::SymbolInformation;
 use std::alloc::{AllocError, Global};
 use strsim::levenshtein;
+
+/// Appends the name of an entry, if it has one.
+fn push_name<'a>(names: &mut Vec<&'a str>, entry: &'a SymbolInformation) -> Result<(), AllocError>
+    ensures { OnOk result (map text_of names.new.items ≡ map text_of names.old.items ++ name_in entry.entry.now) }
+{
+    let name = entry.display_name.as_str();
+    if !name.is_empty() {
+        names.push(name)?;
+    }
+    Ok(())
+}
 
 /// Appends the names of entries.
 fn push_names<'a>(
@@ -19,10 +29,10 @@ fn push_names<'a>(
     entries: &'a [SymbolInformation],
 ) -> Result<(), AllocError>
     ensures { OnOk result (map text_of names.new.items ≡ map text_of names.old.items
-        ++ map (λ (entry : SymbolInformation). entry.display_name) entries.entry.now) }
+        ++ flat_map name_in entries.entry.now) }
 {
     for entry in entries {
-        names.push(entry.display_name.as_str())?;
+        push_name(names, entry)?;
     }
     Ok(())
 }

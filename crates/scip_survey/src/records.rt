@@ -1,7 +1,7 @@
 //! The records of an index, one after another.
 
-ghost use Rattle.std.specs.Prelude.{◌≡◌, ◌++◌, IfOk, OnOk, option_copied};
-ghost use Rattle.std.specs.List.{flat_map};
+ghost use Rattle.std.specs.Prelude.{◌≡◌, ◌++◌, IfOk, IfSome, IsTrue, OnOk, option_copied};
+ghost use Rattle.std.specs.List.{All, flat_map};
 ghost use Rattle.std.specs.Option.{option_map};
 ghost use Rattle.std.specs.String.{string_bytes};
 ghost use Rattle.scip_query.specs.Sites.{Numbered, document_named};
@@ -11,6 +11,7 @@ ghost use Rattle.scip_survey.specs.Records.{
   OfIndex,
   OfOccurrence,
   OfSymbol,
+  ReadsBack,
   document_records,
   metadata_records,
   record_text,
@@ -36,7 +37,9 @@ fn push_metadata(
     json: bool,
     metadata: &Metadata,
 ) -> Result<(), AllocError>
-    ensures { OnOk result (string_bytes text.new ≡ string_bytes text.old ++ record_text json (OfIndex metadata.now)) }
+    ensures text { OnOk result (string_bytes text.new ≡ string_bytes text.old
+        ++ record_text json (OfIndex metadata.now)) }
+    ensures reads_back { OnOk result (IsTrue json → ReadsBack (OfIndex metadata.now)) }
 {
     if json {
         push_json_line(alloc, text, &metadata_value(alloc, metadata)?)
@@ -52,8 +55,9 @@ fn push_own(
     json: bool,
     metadata: Option<&Metadata>,
 ) -> Result<(), AllocError>
-    ensures { OnOk result (string_bytes text.new ≡ string_bytes text.old
+    ensures text { OnOk result (string_bytes text.new ≡ string_bytes text.old
         ++ records_text json (metadata_records (option_copied metadata.entry))) }
+    ensures reads_back { OnOk result (IsTrue json → All ReadsBack (metadata_records (option_copied metadata.entry))) }
 {
     match metadata {
         Some(metadata) => push_metadata(alloc, text, json, metadata),
@@ -69,8 +73,9 @@ fn push_occurrence(
     path: &str,
     occurrence: &Occurrence,
 ) -> Result<(), AllocError>
-    ensures { OnOk result (string_bytes text.new ≡ string_bytes text.old
+    ensures text { OnOk result (string_bytes text.new ≡ string_bytes text.old
         ++ record_text json (OfOccurrence path.now occurrence.now)) }
+    ensures reads_back { OnOk result (IsTrue json → ReadsBack (OfOccurrence path.now occurrence.now)) }
 {
     if json {
         push_json_line(alloc, text, &occurrence_value(alloc, path, occurrence)?)
@@ -87,8 +92,10 @@ fn push_occurrences(
     path: &str,
     occurrences: &[Occurrence],
 ) -> Result<(), AllocError>
-    ensures { OnOk result (string_bytes text.new ≡ string_bytes text.old
+    ensures text { OnOk result (string_bytes text.new ≡ string_bytes text.old
         ++ flat_map (λ o. record_text json (OfOccurrence path.now o)) occurrences.now) }
+    ensures reads_back { OnOk result (IsTrue json
+        → All (λ o. ReadsBack (OfOccurrence path.now o)) occurrences.now) }
 {
     for occurrence in occurrences {
         push_occurrence(alloc, text, json, path, occurrence)?;
@@ -104,8 +111,9 @@ fn push_symbol(
     path: &str,
     entry: &SymbolInformation,
 ) -> Result<(), AllocError>
-    ensures { OnOk result (string_bytes text.new ≡ string_bytes text.old
+    ensures text { OnOk result (string_bytes text.new ≡ string_bytes text.old
         ++ record_text json (OfSymbol path.now entry.now)) }
+    ensures reads_back { OnOk result (IsTrue json → ReadsBack (OfSymbol path.now entry.now)) }
 {
     if json {
         push_json_line(alloc, text, &symbol_value(alloc, path, entry)?)
@@ -122,8 +130,10 @@ fn push_symbols(
     path: &str,
     entries: &[SymbolInformation],
 ) -> Result<(), AllocError>
-    ensures { OnOk result (string_bytes text.new ≡ string_bytes text.old
+    ensures text { OnOk result (string_bytes text.new ≡ string_bytes text.old
         ++ flat_map (λ entry. record_text json (OfSymbol path.now entry)) entries.now) }
+    ensures reads_back { OnOk result (IsTrue json
+        → All (λ entry. ReadsBack (OfSymbol path.now entry)) entries.now) }
 {
     for entry in entries {
         push_symbol(alloc, text, json, path, entry)?;
@@ -138,8 +148,9 @@ fn push_heading(
     json: bool,
     document: &Document,
 ) -> Result<(), AllocError>
-    ensures { OnOk result (string_bytes text.new ≡ string_bytes text.old
+    ensures text { OnOk result (string_bytes text.new ≡ string_bytes text.old
         ++ record_text json (OfDocument document.now)) }
+    ensures reads_back { OnOk result (IsTrue json → ReadsBack (OfDocument document.now)) }
 {
     if json {
         push_json_line(alloc, text, &document_value(alloc, document)?)
@@ -155,8 +166,9 @@ fn push_document(
     json: bool,
     document: &Document,
 ) -> Result<(), AllocError>
-    ensures { OnOk result (string_bytes text.new ≡ string_bytes text.old
+    ensures text { OnOk result (string_bytes text.new ≡ string_bytes text.old
         ++ records_text json (document_records document.now)) }
+    ensures reads_back { OnOk result (IsTrue json → All ReadsBack (document_records document.now)) }
 {
     let path = document.relative_path.as_str();
     push_heading(alloc, text, json, document)?;
@@ -171,8 +183,10 @@ fn push_documents(
     json: bool,
     documents: &[Document],
 ) -> Result<(), AllocError>
-    ensures { OnOk result (string_bytes text.new ≡ string_bytes text.old
+    ensures text { OnOk result (string_bytes text.new ≡ string_bytes text.old
         ++ flat_map (λ d. records_text json (document_records d)) documents.now) }
+    ensures reads_back { OnOk result (IsTrue json
+        → All (λ d. All ReadsBack (document_records d)) documents.now) }
 {
     for document in documents {
         push_document(alloc, text, json, document)?;
@@ -187,7 +201,9 @@ fn push_external(
     json: bool,
     entry: &SymbolInformation,
 ) -> Result<(), AllocError>
-    ensures { OnOk result (string_bytes text.new ≡ string_bytes text.old ++ record_text json (OfExternal entry.now)) }
+    ensures text { OnOk result (string_bytes text.new ≡ string_bytes text.old
+        ++ record_text json (OfExternal entry.now)) }
+    ensures reads_back { OnOk result (IsTrue json → ReadsBack (OfExternal entry.now)) }
 {
     if json {
         push_json_line(alloc, text, &external_value(alloc, entry)?)
@@ -203,8 +219,9 @@ fn push_externals(
     json: bool,
     entries: &[SymbolInformation],
 ) -> Result<(), AllocError>
-    ensures { OnOk result (string_bytes text.new ≡ string_bytes text.old
+    ensures text { OnOk result (string_bytes text.new ≡ string_bytes text.old
         ++ flat_map (λ entry. record_text json (OfExternal entry)) entries.now) }
+    ensures reads_back { OnOk result (IsTrue json → All (λ entry. ReadsBack (OfExternal entry)) entries.now) }
 {
     for entry in entries {
         push_external(alloc, text, json, entry)?;
@@ -214,7 +231,8 @@ fn push_externals(
 
 /// All records of an index, one on a line, in its order, in JSON or for people.
 pub fn index_text(alloc: Global, json: bool, queries: &Queries) -> Result<String, AllocError>
-    ensures { IfOk result (λ text. string_bytes text ≡ records_text json (records_of queries.now)) }
+    ensures text { IfOk result (λ text. string_bytes text ≡ records_text json (records_of queries.now)) }
+    ensures reads_back { IfOk result (λ _. IsTrue json → All ReadsBack (records_of queries.now)) }
 {
     let mut text = String::new(alloc);
     push_own(alloc, &mut text, json, queries.metadata())?;
@@ -230,9 +248,12 @@ pub fn document_text(
     queries: &Queries,
     path: &str,
 ) -> Result<Option<String>, AllocError>
-    ensures { IfOk result (λ text. option_map string_bytes text
+    ensures text { IfOk result (λ text. option_map string_bytes text
         ≡ option_map (λ (d : Numbered). records_text json (document_records d.document))
         (document_named queries.now path.now)) }
+    ensures reads_back { IfOk result (λ _. IsTrue json
+        → IfSome (document_named queries.now path.now)
+        (λ (d : Numbered). All ReadsBack (document_records d.document))) }
 {
     match queries.document(path) {
         Some(document) => {

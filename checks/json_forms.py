@@ -153,7 +153,7 @@ FINDING = thing(
     {"column": or_null(FROM_ONE), "line": or_null(FROM_ONE), "offset": or_null(COUNT), "end": or_null(COUNT),
      "first": {**PLACE, "type": ["object", "null"]}, "import": or_null(TEXT), "message": TEXT,
      "kind": {"enum": ["fault", "skipped", "no target", "uncertain"]},
-     "name": {"type": "string", "pattern": "^[A-Z][A-Za-z]*$"}, "path": or_null(TEXT)})
+     "name": {"type": "string", "pattern": "^[A-Z][A-Za-z0-9]*$"}, "path": or_null(TEXT)})
 COUNTS = thing(
     "imports kind skipped sources status uses",
     {"imports": COUNT, "kind": {"enum": ["counts"]}, "skipped": COUNT, "sources": COUNT, "status": COUNT,

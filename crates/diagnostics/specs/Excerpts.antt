@@ -1,9 +1,9 @@
 -- A line of a source, with a part of it marked.
-use Rattle.std.specs.Prelude.{ℕ, ◌+◌, ◌-◌, Bool, nat_lt, List, [], ◌∷◌, ◌++◌, length, take, drop, codes, if◌then◌else◌}
+use Rattle.std.specs.Prelude.{ℕ, ◌+◌, ◌-◌, Bool, nat_eq, nat_lt, List, [], ◌∷◌, ◌++◌, length, take, drop, codes, if◌then◌else◌}
 use Rattle.std.specs.Fmt.{decimal}
 use Rattle.std.specs.List.{flat_map}
 use Rattle.diagnostics.specs.Characters.{characters}
-use Rattle.diagnostics.specs.Places.{line_number, line_after}
+use Rattle.diagnostics.specs.Places.{line_number, line_after, token_len}
 use Rattle.diagnostics.specs.Shown.{shown_text, marks}
 use Rattle.proto_lex.specs.Position.{line_before}
 
@@ -92,3 +92,8 @@ abbrev pub quoted : List ℕ → List ℕ
 quoted bytes =
     codes "`" ++ shown_text (take token_room (characters bytes))
     ++ where_cut (nat_lt token_room (length (characters bytes))) (codes "...") ++ codes "`"
+
+-- the token that the parser met, by the bytes from it on
+abbrev pub met : List ℕ → List ℕ
+met bytes = if nat_eq (length bytes) 0 then codes "the text ends here: "
+    else codes "met " ++ quoted (take (token_len bytes) bytes) ++ codes ": "

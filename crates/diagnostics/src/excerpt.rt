@@ -10,6 +10,7 @@ ghost use Rattle.diagnostics.specs.Excerpts.{
   excerpt,
   last_of,
   mark_line,
+  met,
   numbered,
   parts_in,
   quoted,
@@ -22,7 +23,7 @@ ghost use Rattle.diagnostics.specs.Tables.Steps.{both, parts_between};
 
 use crate::characters::{count_characters, last_characters};
 use crate::counter::LineCounter;
-use crate::line::cut;
+use crate::line::{cut, token_len};
 use crate::near::{end_of_line, front_of_line};
 use crate::shown::{push_marks, push_shown};
 use std::alloc::{AllocError, Global};
@@ -223,4 +224,16 @@ pub fn push_quoted(out: &mut String, bytes: &[u8]) -> Result<(), AllocError>
     push_shown(out, bytes, TOKEN_ROOM)?;
     push_where_cut(out, count_characters(bytes) > TOKEN_ROOM, "...")?;
     out.push_str("`")
+}
+
+/// Appends which token the parser met, by the bytes from it on.
+pub fn push_met(out: &mut String, bytes: &[u8]) -> Result<(), AllocError>
+    ensures { OnOk result (string_bytes out.new ≡ string_bytes out.old ++ met bytes.now) }
+{
+    if bytes.is_empty() {
+        return out.push_str("the text ends here: ");
+    }
+    out.push_str("met ")?;
+    push_quoted(out, bytes.split_at(token_len(bytes)).0)?;
+    out.push_str(": ")
 }

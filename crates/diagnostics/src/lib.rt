@@ -26,7 +26,7 @@ mod wording;
 mod laws;
 
 pub use counter::LineCounter;
-pub use excerpt::{push_excerpt, push_quoted};
+pub use excerpt::{push_excerpt, push_met, push_quoted};
 pub use gaps::behind_gap;
 pub use hints::{MAX_FRONT, hint_text};
 pub use laws::{characters_of_a_text, marks_stand_below, nothing_is_obeyed, short_lines_are_whole};

@@ -1,13 +1,14 @@
 -- What a report tells: one finding for each thing that is wrong with a tree, or that its index lacks.
-use Rattle.std.specs.Prelude.{ℕ, List, Option, codes}
+use Rattle.std.specs.Prelude.{ℕ, List, [], ◌++◌, Option, None, Some, codes}
 use Rattle.std.specs.Option.{option_map}
+use Rattle.diagnostics.specs.Excerpts.{met, quoted}
 use Rattle.diagnostics.specs.Places.{column, line_number}
 use Rattle.fault_reports.specs.declared.finding.FindingKind.{FindingKind}
 use Rattle.fault_reports.specs.declared.finding.FindingKind.TheVariants.{Fault, Skipped, Unresolved, Uncertain}
 use Rattle.fault_reports.specs.declared.finding.Point.{Point}
 
--- a file by its path, as it is shown and as it is in bytes; what it holds, and how many bytes of that come before a place, and before its end, if that is known; without
--- an offset, the whole file
+-- a file by its path, as it is shown and as it is in bytes; what it holds, and how many bytes of that come before a
+-- place, and before its end, if that is known; without an offset, the whole file
 pub record FoundPlace : Type 0 where
   pub path : List ℕ
   pub bytes : List ℕ
@@ -15,13 +16,16 @@ pub record FoundPlace : Type 0 where
   pub offset : Option ℕ
   pub end : Option ℕ
 
--- One thing: the name of the fault, a sentence about it, and where it is; where a full name is first given that is
--- given again; and the string literals of an import that names no file, which spell its path together.
+-- One thing: the name of the fault, a sentence about it, and where it is; the bytes of a source from the token on that
+-- the parser met, or those of what is named there; where a full name is first given that is given again; and the string
+-- literals of an import that names no file, which spell its path together.
 pub record Found : Type 0 where
   pub kind : FindingKind
   pub name : List ℕ
   pub message : List ℕ
   pub place : Option FoundPlace
+  pub met : Option (List ℕ)
+  pub named : Option (List ℕ)
   pub first : Option FoundPlace
   pub imported : Option (List ℕ)
 
@@ -63,3 +67,16 @@ related_of Fault = codes "it is given here"
 related_of Skipped = codes "it is given here"
 related_of Unresolved = codes "it is given here"
 related_of Uncertain = codes "it can't be read"
+
+-- ---- what is said of it: the token that was met, the sentence, and what is named there
+
+abbrev pub met_text : Option (List ℕ) → List ℕ
+met_text None = []
+met_text (Some bytes) = met bytes
+
+abbrev pub named_text : Option (List ℕ) → List ℕ
+named_text None = []
+named_text (Some bytes) = codes ": " ++ quoted bytes
+
+abbrev pub said_of : Found → List ℕ
+said_of found = met_text found.met ++ found.message ++ named_text found.named

@@ -8,7 +8,7 @@ use Rattle.diagnostics.specs.Literals.{joined}
 use Rattle.serde_json.specs.Data.{Data, null, number, unsigned, string, object, member, no_members}
 use Rattle.serde_json.specs.Written.{compact_text}
 use Rattle.fault_reports.specs.declared.finding.Counts.{Counts}
-use Rattle.fault_reports.specs.Findings.{Found, FoundPlace, column_at, line_at, word_of}
+use Rattle.fault_reports.specs.Findings.{Found, FoundPlace, column_at, line_at, said_of, word_of}
 
 abbrev pub number_or_null : Option ℕ → Data
 number_or_null None = null
@@ -37,7 +37,7 @@ value_of found = object
     (member (codes "import") (text_or_null (option_map utf8_lossy (option_map joined found.imported)))
     (member (codes "kind") (string (word_of found.kind))
     (member (codes "line") (number_or_null (option_and_then line_at found.place))
-    (member (codes "message") (string found.message)
+    (member (codes "message") (string (said_of found))
     (member (codes "name") (string found.name)
     (member (codes "offset") (number_or_null (option_and_then (λ (place : FoundPlace). place.offset) found.place))
     (member (codes "path") (text_or_null (option_map (λ (place : FoundPlace). place.path) found.place))

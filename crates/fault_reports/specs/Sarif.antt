@@ -12,7 +12,7 @@ use Rattle.serde_json.specs.View.{items_of}
 use Rattle.fault_reports.specs.declared.finding.FindingKind.{FindingKind}
 use Rattle.fault_reports.specs.declared.finding.Point.{Point}
 use Rattle.fault_reports.specs.Rules.{lexing_text}
-use Rattle.fault_reports.specs.Findings.{Found, FoundPlace, end_of, level_of, related_of, start_of}
+use Rattle.fault_reports.specs.Findings.{Found, FoundPlace, end_of, level_of, related_of, said_of, start_of}
 
 -- a text in a message (3.11)
 abbrev pub message_value : List ℕ → Data
@@ -79,7 +79,7 @@ abbrev pub result_value : Found → Data
 result_value found = object
     (member (codes "level") (string (level_of found.kind))
     (member (codes "locations") (locations_value found.place)
-    (member (codes "message") (message_value found.message)
+    (member (codes "message") (message_value (said_of found))
     (member (codes "relatedLocations") (related_value found.kind found.first)
     (member (codes "ruleId") (string found.name) no_members)))))
 

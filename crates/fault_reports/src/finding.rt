@@ -1,19 +1,24 @@
 //! What a report tells.
 
-ghost use Rattle.std.specs.Prelude.{◌≡◌, [], None};
+ghost use Rattle.std.specs.Prelude.{◌≡◌, ◌++◌, [], None, IfOk, OnOk};
 ghost use Rattle.std.specs.Option.{option_and_then, option_map};
+ghost use Rattle.std.specs.String.{string_bytes};
 ghost use Rattle.fault_reports.specs.Findings.{
   column_at,
   end_of,
   level_of,
   line_at,
+  met_text,
+  named_text,
   point_in,
   related_of,
+  said_of,
   start_of,
   word_of,
 };
 
-use diagnostics::LineCounter;
+use diagnostics::{LineCounter, push_met, push_quoted};
+use std::alloc::{AllocError, Global};
 use std::marker::Model;
 
 /// What a finding is.
@@ -81,6 +86,10 @@ pub struct Finding<'a> {
     pub message: &'a str,
     /// Where it is, if it is of a file.
     pub place: Option<Place<'a>>,
+    /// The bytes of its file from the token on that the parser met.
+    pub met: Option<&'a [u8]>,
+    /// The bytes of what is named there: a name, or the string literals of an import.
+    pub named: Option<&'a [u8]>,
     /// Where a full name is first given that is given again here; of an uncertain use, the file that can't be read.
     pub first: Option<Place<'a>>,
     /// The string literals of an import that names no file, as the source has them: they spell its path together.
@@ -98,6 +107,8 @@ impl<'a> Model for Finding<'a> {
       name = finding.name.now;
       message = finding.message.now;
       place = finding.place;
+      met = option_map (λ bytes. bytes.now) finding.met;
+      named = option_map (λ bytes. bytes.now) finding.named;
       first = finding.first;
       imported = option_map (λ path. path.now) finding.import;
     } };
@@ -272,6 +283,31 @@ impl<'a> Place<'a> {
     }
 }
 
+/// Appends which token was met, if the parser met one.
+fn push_met_token(out: &mut String, met: Option<&[u8]>) -> Result<(), AllocError>
+    ensures { OnOk result (string_bytes out.new
+        ≡ string_bytes out.old ++ met_text (option_map (λ bytes. bytes.now) met.entry)) }
+{
+    match met {
+        Some(bytes) => push_met(out, bytes),
+        None => Ok(()),
+    }
+}
+
+/// Appends what is named, if anything is.
+fn push_named(out: &mut String, named: Option<&[u8]>) -> Result<(), AllocError>
+    ensures { OnOk result (string_bytes out.new
+        ≡ string_bytes out.old ++ named_text (option_map (λ bytes. bytes.now) named.entry)) }
+{
+    match named {
+        Some(bytes) => {
+            out.push_str(": ")?;
+            push_quoted(out, bytes)
+        }
+        None => Ok(()),
+    }
+}
+
 /// The offset of a point.
 fn offset_of(point: Option<Point>) -> Option<usize>
     ensures { result ≡ option_map (λ point. point.at) point }
@@ -308,6 +344,17 @@ impl<'a> Finding<'a> {
         ensures { result.now ≡ self.now.name }
     {
         self.name
+    }
+
+    /// What is said of it: the token that was met, the sentence, and what is named there.
+    pub(crate) fn said(&self, alloc: Global) -> Result<String, AllocError>
+        ensures { IfOk result (λ text. string_bytes text ≡ said_of self.now) }
+    {
+        let mut text = String::new(alloc);
+        push_met_token(&mut text, self.met)?;
+        text.push_str(self.message)?;
+        push_named(&mut text, self.named)?;
+        Ok(text)
     }
 
     /// The path of its file.

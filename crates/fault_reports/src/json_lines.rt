@@ -84,7 +84,8 @@ fn value_of(alloc: Global, finding: &Finding<'_>) -> Result<Value, AllocError>
     put(&mut map, alloc, "import", import)?;
     put_text(&mut map, alloc, "kind", finding.kind.word())?;
     put(&mut map, alloc, "line", number_or_null(finding.line()))?;
-    put_text(&mut map, alloc, "message", finding.message)?;
+    let said = finding.said(alloc)?;
+    put_text(&mut map, alloc, "message", said.as_str())?;
     put_text(&mut map, alloc, "name", finding.name)?;
     put(&mut map, alloc, "offset", number_or_null(finding.offset()))?;
     let path = text_or_null(alloc, finding.path())?;

@@ -147,7 +147,8 @@ fn result_value(alloc: Global, finding: &Finding<'_>) -> Result<Value, AllocErro
     ensures { IfOk result (λ value. view value ≡ result_value finding.now) }
 {
     let locations = locations_value(alloc, &finding.place)?;
-    let message = message_value(alloc, finding.message)?;
+    let said = finding.said(alloc)?;
+    let message = message_value(alloc, said.as_str())?;
     let related = related_value(alloc, finding.kind, &finding.first)?;
     json!(in alloc; {
         "level": finding.kind.level(),

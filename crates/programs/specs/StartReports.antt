@@ -29,6 +29,8 @@ finding_of fault = record {
   name = name_of fault;
   message = sentence_of fault;
   place = option_map whole_file (path_of fault);
+  met = None;
+  named = None;
   first = None;
   imported = None;
 }

@@ -34,6 +34,8 @@ fn finding_of(fault: &StartFault) -> Finding<'_>
         name: said.name,
         message: said.sentence,
         place: whole_file(said.path),
+        met: None,
+        named: None,
         first: None,
         import: None,
     }

@@ -87,8 +87,8 @@ it is a source that was read, or a link to one; the report would replace it\n",
     Row {
         words: "index clash out --report r.jsonl",
         status: 1,
-        reported: "{\"column\":9,\"end\":28,\"first\":{\"column\":9,\"end\":47,\"line\":3,\"offset\":46,\"path\":\"a.proto\"},\"import\":null,\"kind\":\"fault\",\"line\":2,\"message\":\"this full name is given already\",\"name\":\"Duplicate\",\"offset\":27,\"path\":\"b.proto\"}
-{\"column\":8,\"end\":36,\"first\":null,\"import\":\"no.proto\",\"kind\":\"fault\",\"line\":2,\"message\":\"no source has this path, below ROOT or a folder that is included\",\"name\":\"MissingImport\",\"offset\":26,\"path\":\"a.proto\"}
+        reported: "{\"column\":9,\"end\":28,\"first\":{\"column\":9,\"end\":47,\"line\":3,\"offset\":46,\"path\":\"a.proto\"},\"import\":null,\"kind\":\"fault\",\"line\":2,\"message\":\"this full name is given already: `A`\",\"name\":\"Duplicate\",\"offset\":27,\"path\":\"b.proto\"}
+{\"column\":8,\"end\":36,\"first\":null,\"import\":\"no.proto\",\"kind\":\"fault\",\"line\":2,\"message\":\"no source has this path, below ROOT or a folder that `--include DIR` names: `\\\"no.proto\\\"`\",\"name\":\"MissingImport\",\"offset\":26,\"path\":\"a.proto\"}
 {\"imports\":1,\"kind\":\"counts\",\"skipped\":1,\"sources\":0,\"status\":1,\"uses\":0}\n\0",
         said: "protoscip: b.proto@27: Duplicate of a.proto@46\n",
         ..SILENT
@@ -117,8 +117,8 @@ protoscip: 1 sources indexed, 1 skipped, 0 imports and 0 uses without a target\n
     Row {
         words: "index doubt out --faulty skip --include base --report r.jsonl",
         written: DOUBT,
-        reported: "{\"column\":8,\"end\":46,\"first\":null,\"import\":\"a.proto\",\"kind\":\"no target\",\"line\":3,\"message\":\"the file with this path is left out\",\"name\":\"MissingImport\",\"offset\":37,\"path\":\"b.proto\"}
-{\"column\":13,\"end\":79,\"first\":{\"column\":null,\"end\":null,\"line\":null,\"offset\":null,\"path\":\"a.proto\"},\"import\":null,\"kind\":\"uncertain\",\"line\":5,\"message\":\"a file that this source sees can't be read: it may declare this name nearer\",\"name\":\"Uncertain\",\"offset\":78,\"path\":\"b.proto\"}
+        reported: "{\"column\":8,\"end\":46,\"first\":null,\"import\":\"a.proto\",\"kind\":\"no target\",\"line\":3,\"message\":\"the file with this path is left out: `\\\"a.proto\\\"`\",\"name\":\"MissingImport\",\"offset\":37,\"path\":\"b.proto\"}
+{\"column\":13,\"end\":79,\"first\":{\"column\":null,\"end\":null,\"line\":null,\"offset\":null,\"path\":\"a.proto\"},\"import\":null,\"kind\":\"uncertain\",\"line\":5,\"message\":\"a file that this source sees can't be read: it may declare this name nearer: `T`\",\"name\":\"Uncertain\",\"offset\":78,\"path\":\"b.proto\"}
 {\"column\":1,\"end\":null,\"first\":null,\"import\":null,\"kind\":\"skipped\",\"line\":1,\"message\":\"this character can't be here\",\"name\":\"BadByte\",\"offset\":0,\"path\":\"a.proto\"}
 {\"imports\":1,\"kind\":\"counts\",\"skipped\":1,\"sources\":1,\"status\":0,\"uses\":0}\n\0",
         said: "protoscip: no target: b.proto@37: MissingImport

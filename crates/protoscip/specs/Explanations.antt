@@ -1,11 +1,11 @@
 -- What is added to the line of a fault if it is to be explained: the place, a sentence, and the source's line. (The
 -- texts are this project's own.)
-use Rattle.std.specs.Prelude.{◌≡◌, ℕ, ◌-◌, Bool, true, false, List, [], ◌++◌, Option, None, Some, take, drop, length}
-use Rattle.std.specs.Prelude.{nat_eq, codes, if◌then◌else◌}
-use Rattle.std.specs.List.{list_any, slice_get}
+use Rattle.std.specs.Prelude.{◌≡◌, ℕ, ◌-◌, Bool, true, false, List, [], ◌++◌, Option, None, Some, take, drop}
+use Rattle.std.specs.Prelude.{codes, if◌then◌else◌, nat_eq}
+use Rattle.std.specs.List.{list_any, slice_get, starts_with}
 use Rattle.std.specs.Str.{bytes_eq}
 use Rattle.std.specs.Option.{option_map, unwrap_or}
-use Rattle.diagnostics.specs.Excerpts.{excerpt, quoted}
+use Rattle.diagnostics.specs.Excerpts.{excerpt, met}
 use Rattle.diagnostics.specs.Literals.{joined}
 use Rattle.diagnostics.specs.Places.{place_text, token_len}
 use Rattle.proto_lex.specs.FaultNames.{lex_offset}
@@ -48,11 +48,6 @@ abbrev pub at_token : (path text : List ℕ) → Option ℕ → (sentence : List
 at_token path text None sentence = []
 at_token path text (Some at) sentence = explained path text at (token_len (drop at text)) sentence
 
--- the token that the parser met, by the bytes from it on
-abbrev pub met : List ℕ → List ℕ
-met bytes = if nat_eq (length bytes) 0 then codes "the text ends here: "
-    else codes "met " ++ quoted (take (token_len bytes) bytes) ++ codes ": "
-
 -- what could be there instead is told behind the sentence
 abbrev pub at_met : (path text : List ℕ) → Option ℕ → (sentence hints : List ℕ) → List ℕ
 at_met path text None sentence hints = []
@@ -88,9 +83,9 @@ AreHintsOf dialect tree fault hints = hints ≡ []
 
 -- ---- sentences, by what the tree holds
 
--- the string literals of an import
-abbrev pub imported : List TreeFile → FilePlace → List ℕ
-imported tree place = take (place.span.end - place.span.start) (drop place.span.start (bytes_of tree place.file))
+-- the bytes of a place
+abbrev pub spanned : List TreeFile → FilePlace → List ℕ
+spanned tree place = take (place.span.end - place.span.start) (drop place.span.start (bytes_of tree place.file))
 
 -- one of the files has a path
 abbrev pub has_path : (path : List ℕ) → List TreeFile → Bool
@@ -110,12 +105,18 @@ met_sentence text (parsing.Grammar at) =
     else syntax_sentence (parsing.Grammar at)
 met_sentence text fault = syntax_sentence fault
 
--- an import without a file may be of one that is left out
+-- the first of an import's literals begins as the paths of the well-known files do (Protocol Buffers Well-Known Types)
+abbrev pub is_well_known : (literals : List ℕ) → Bool
+is_well_known literals = starts_with nat_eq (drop 1 literals) (codes "google/protobuf/")
+
+-- an import without a file may be of one that is left out, or of a well-known one
 abbrev pub sentence_in : List TreeFile → Fault → List ℕ
 sentence_in tree (Syntax number fault) = met_sentence (bytes_of tree number) fault
 sentence_in tree (MissingImport place) =
-    if has_path (joined (imported tree place)) tree then codes "the file with this path is left out"
-    else sentence_of (MissingImport place)
+    if has_path (joined (spanned tree place)) tree then codes "the file with this path is left out"
+    else (if is_well_known (spanned tree place)
+    then codes "no source has this path; `--well-known` includes the well-known files"
+    else sentence_of (MissingImport place))
 sentence_in tree fault = sentence_of fault
 
 -- ---- explanations

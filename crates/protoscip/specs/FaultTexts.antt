@@ -83,7 +83,7 @@ text_of (Lex number fault) = lex_text fault
 text_of (Syntax number fault) = syntax_text fault
 text_of (Duplicate first second) = refused (codes "Duplicate") (codes "this full name is given already")
 text_of (MissingImport place) =
-    refused (codes "MissingImport") (codes "no source has this path, below ROOT or a folder that is included")
+    refused (codes "MissingImport") (codes "no source has this path, below ROOT or a folder that `--include DIR` names")
 text_of (Unresolved place) = refused (codes "Unresolved") (codes "no type that this source sees has this name")
 text_of (Ambiguous place) =
     refused (codes "Ambiguous") (codes "several files that this source sees declare a type of this name")

@@ -1,7 +1,8 @@
 -- What a report tells of a tree: a finding for each fault, with the name that its line has and the sentence that
 -- explains it.
-use Rattle.std.specs.Prelude.{ℕ, ◌-◌, Bool, false, not, ◌&&◌, nat_eq, List, ◌∷◌, ◌++◌, Option, None, Some, map}
+use Rattle.std.specs.Prelude.{ℕ, ◌-◌, Bool, false, not, ◌&&◌, nat_eq, List, ◌∷◌, ◌++◌, Option, None, Some, drop, map}
 use Rattle.std.specs.List.{count_by, filter}
+use Rattle.std.specs.Option.{option_map}
 use Rattle.fault_reports.specs.Findings.{Found, FoundPlace}
 use Rattle.fault_reports.specs.declared.finding.Counts.{Counts}
 use Rattle.fault_reports.specs.declared.finding.FindingKind.{FindingKind}
@@ -12,7 +13,7 @@ use Rattle.proto_visibility.specs.declared.files.FilePlace.{FilePlace}
 use Rattle.scip_build.specs.declared.omission.Omission.{Omission}
 use Rattle.scip_build.specs.declared.omission.Omission.TheVariants as omitted
 use Rattle.source_tree.specs.Files.{TreeFile}
-use Rattle.protoscip.specs.Explanations.{bytes_of, imported, sentence_in}
+use Rattle.protoscip.specs.Explanations.{bytes_of, sentence_in, spanned}
 use Rattle.protoscip.specs.FaultLines.{path_of}
 use Rattle.protoscip.specs.FaultTexts.{name_of}
 use Rattle.protoscip.specs.Faults.{fault_of_omission}
@@ -59,8 +60,23 @@ first_of tree fault = None
 
 -- of an import without a file, its string literals, which spell its path together
 abbrev pub import_of : List TreeFile → Fault → Option (List ℕ)
-import_of tree (MissingImport place) = Some (imported tree place)
+import_of tree (MissingImport place) = Some (spanned tree place)
 import_of tree fault = None
+
+-- the bytes of its source from the token on that the parser met
+abbrev pub met_of : List TreeFile → Fault → Option (List ℕ)
+met_of tree (Syntax number fault) = option_map (λ at. drop at (bytes_of tree number)) (syntax_offset fault)
+met_of tree fault = None
+
+-- what is named there: of a name the name, and of an import its literals
+abbrev pub named_of : List TreeFile → Fault → Option (List ℕ)
+named_of tree (Duplicate first second) = Some (spanned tree second)
+named_of tree (MissingImport place) = Some (spanned tree place)
+named_of tree (Unresolved place) = Some (spanned tree place)
+named_of tree (Ambiguous place) = Some (spanned tree place)
+named_of tree (OptionGap place) = Some (spanned tree place)
+named_of tree (Uncertain place behind) = Some (spanned tree place)
+named_of tree fault = None
 
 abbrev pub finding_of : FindingKind → List TreeFile → Fault → Found
 finding_of kind tree fault = record {
@@ -68,6 +84,8 @@ finding_of kind tree fault = record {
   name = name_of fault;
   message = sentence_in tree fault;
   place = place_of tree fault;
+  met = met_of tree fault;
+  named = named_of tree fault;
   first = first_of tree fault;
   imported = import_of tree fault;
 }

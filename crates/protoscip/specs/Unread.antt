@@ -48,6 +48,8 @@ unread_finding path = record {
   name = unread_name path.is_bad;
   message = unread_sentence path.is_bad;
   place = Some (record { path = path.shown; bytes = path.bytes; text = []; offset = None; end = None });
+  met = None;
+  named = None;
   first = None;
   imported = None;
 }

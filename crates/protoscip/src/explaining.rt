@@ -13,8 +13,8 @@ ghost use Rattle.protoscip.specs.Explanations.{
   explanation_of,
   IsExplained,
   IsFaultText,
-  met,
 };
+ghost use Rattle.diagnostics.specs.Excerpts.{met};
 ghost use Rattle.protoscip.specs.FaultLines.{HasFile, HasFilesOf, path_of};
 
 use crate::fault::Fault;
@@ -22,7 +22,7 @@ use crate::fault_lines::fault_line;
 use crate::required::has_required;
 use crate::sentences::sentence_in;
 use crate::tree_counter::{Part, TreeCounter};
-use diagnostics::{hint_text, push_quoted, token_len};
+use diagnostics::{hint_text, push_met, token_len};
 use proto_link::FilePlace;
 use proto_parse::{Dialect, SyntaxFault};
 use source_tree::Tree;
@@ -224,18 +224,6 @@ pub(crate) fn tail(bytes: &[u8], at: usize) -> &[u8]
     } else {
         &[]
     }
-}
-
-/// Appends which token was met, by the bytes from it on.
-fn push_met(out: &mut String, bytes: &[u8]) -> Result<(), AllocError>
-    ensures { OnOk result (string_bytes out.new ≡ string_bytes out.old ++ met bytes.now) }
-{
-    if bytes.is_empty() {
-        return out.push_str("the text ends here: ");
-    }
-    out.push_str("met ")?;
-    push_quoted(out, bytes.split_at(token_len(bytes)).0)?;
-    out.push_str(": ")
 }
 
 /// The text about a place where the parser met a token, by the bytes from it on.

@@ -129,7 +129,8 @@ impl Fault {
             Fault::Syntax(_, fault) => syntax_text(fault),
             Fault::Duplicate(..) => refused("Duplicate", "this full name is given already"),
             Fault::MissingImport(_) => {
-                let sentence = "no source has this path, below ROOT or a folder that is included";
+                let sentence =
+                    "no source has this path, below ROOT or a folder that `--include DIR` names";
                 refused("MissingImport", sentence)
             }
             Fault::Unresolved(_) => {

@@ -22,6 +22,8 @@ ghost use Rattle.protoscip.specs.Findings.{
   is_use_at,
   kind_of,
   leaves_out,
+  met_of,
+  named_of,
   place_of,
   place_of_span,
   refused_findings,
@@ -33,8 +35,9 @@ ghost use Rattle.protoscip.specs.Findings.{
 };
 ghost use Rattle.protoscip.specs.ToldLines.{told_beside};
 
+use crate::explaining::tail;
 use crate::fault::Fault;
-use crate::sentences::{imported, sentence_in};
+use crate::sentences::{sentence_in, spanned};
 use crate::telling::{
     count_imports, count_left_out, count_skipped, count_skipped_sources, count_uses, told_read,
 };
@@ -119,7 +122,37 @@ fn import_of<'a>(tree: &'a Tree, fault: &Fault) -> Option<&'a [u8]>
     ensures { option_map (λ path. path.now) result ≡ import_of tree.now fault.now }
 {
     match fault {
-        Fault::MissingImport(place) => Some(imported(tree, place)),
+        Fault::MissingImport(place) => Some(spanned(tree, place)),
+        _ => None,
+    }
+}
+
+/// The bytes of a source from the token on that the parser met.
+fn met_of<'a>(tree: &'a Tree, fault: &Fault) -> Option<&'a [u8]>
+    requires { HasFilesOf tree.now fault.now }
+    ensures { option_map (λ bytes. bytes.now) result ≡ met_of tree.now fault.now }
+{
+    match fault {
+        Fault::Syntax(file, fault) => match fault.offset() {
+            Some(at) => Some(tail(tree.bytes(*file), at)),
+            None => None,
+        },
+        _ => None,
+    }
+}
+
+/// The bytes of what is named where a fault is.
+fn named_of<'a>(tree: &'a Tree, fault: &Fault) -> Option<&'a [u8]>
+    requires { HasFilesOf tree.now fault.now }
+    ensures { option_map (λ bytes. bytes.now) result ≡ named_of tree.now fault.now }
+{
+    match fault {
+        Fault::Duplicate(_, second) => Some(spanned(tree, second)),
+        Fault::MissingImport(place) => Some(spanned(tree, place)),
+        Fault::Unresolved(place) => Some(spanned(tree, place)),
+        Fault::Ambiguous(place) => Some(spanned(tree, place)),
+        Fault::OptionGap(place) => Some(spanned(tree, place)),
+        Fault::Uncertain(place, _) => Some(spanned(tree, place)),
         _ => None,
     }
 }
@@ -143,6 +176,8 @@ fn counted_finding<'a>(
         name: fault.name(),
         message: sentence_in(tree, fault),
         place: place_of(&mut counters.own, fault),
+        met: met_of(tree, fault),
+        named: named_of(tree, fault),
         first: first_of(&mut counters.first, fault),
         import: import_of(tree, fault),
     }

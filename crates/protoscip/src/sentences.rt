@@ -4,10 +4,11 @@ ghost use Rattle.std.specs.Prelude.{◌≡◌};
 ghost use Rattle.diagnostics.specs.Literals.{joined};
 ghost use Rattle.protoscip.specs.Explanations.{
   has_path,
-  imported,
   is_edition,
+  is_well_known,
   met_sentence,
   sentence_in,
+  spanned,
 };
 ghost use Rattle.protoscip.specs.FaultLines.{HasFile, HasFilesOf};
 
@@ -54,10 +55,10 @@ fn met_sentence(text: &[u8], fault: &SyntaxFault) -> &'static str
     }
 }
 
-/// The string literals of an import, which spell its path together.
-pub(crate) fn imported<'a>(tree: &'a Tree, place: &FilePlace) -> &'a [u8]
+/// The bytes of a place: of an import they are string literals, which spell its path together.
+pub(crate) fn spanned<'a>(tree: &'a Tree, place: &FilePlace) -> &'a [u8]
     requires { HasFile tree.now place.now.file }
-    ensures { result.now ≡ imported tree.now place.now }
+    ensures { result.now ≡ spanned tree.now place.now }
 {
     let len = (place.span.end as usize).saturating_sub(place.span.start as usize);
     let behind = tail(tree.bytes(place.file), place.span.start as usize);
@@ -76,8 +77,15 @@ fn has_path(tree: &Tree, literals: &[u8]) -> bool
     false
 }
 
+/// Whether the first of an import's literals begins as the paths of the well-known files do.
+fn is_well_known(literals: &[u8]) -> bool
+    ensures { result ≡ is_well_known literals.now }
+{
+    tail(literals, 1).starts_with(b"google/protobuf/")
+}
+
 /// For a fault of a tree, by what that holds; empty for lack of memory. An import without a file may be of one that is
-/// left out. If two places have one full name, it is that of the second.
+/// left out, or of a well-known one. If two places have one full name, it is that of the second.
 pub(crate) fn sentence_in(tree: &Tree, fault: &Fault) -> &'static str
     requires { HasFilesOf tree.now fault.now }
     ensures { result.now ≡ sentence_in tree.now fault.now }
@@ -85,8 +93,12 @@ pub(crate) fn sentence_in(tree: &Tree, fault: &Fault) -> &'static str
     match fault {
         Fault::Syntax(file, syntax) => met_sentence(tree.bytes(*file), syntax),
         Fault::MissingImport(place) => {
-            if has_path(tree, imported(tree, place)) {
+            let literals = spanned(tree, place);
+            if has_path(tree, literals) {
                 return "the file with this path is left out";
+            }
+            if is_well_known(literals) {
+                return "no source has this path; `--well-known` includes the well-known files";
             }
             fault.text().sentence
         }

@@ -149,6 +149,8 @@ fn unread_finding(path: &UnreadPath) -> Finding<'_>
         name: path.name(),
         message: path.sentence(),
         place: Some(Place::of_entry(path.shown(), path.bytes())),
+        met: None,
+        named: None,
         first: None,
         import: None,
     }

@@ -42,14 +42,14 @@ static ROWS: [Row; 4] = [
         files: "b.proto\n@|\
 a.proto\nsyntax = \"proto3\";\nimport \"e.\" 'proto';\nmessage M { D d = 1; }\n",
         duplicates: Duplicates::Refuse,
-        skipped: "{\"column\":8,\"end\":38,\"first\":null,\"import\":\"e.proto\",\"kind\":\"no target\",\"line\":2,\"message\":\"no source has this path, below ROOT or a folder that is included\",\"name\":\"MissingImport\",\"offset\":26,\"path\":\"a.proto\"}
-{\"column\":13,\"end\":53,\"first\":null,\"import\":null,\"kind\":\"no target\",\"line\":3,\"message\":\"no type that this source sees has this name\",\"name\":\"Unresolved\",\"offset\":52,\"path\":\"a.proto\"}
+        skipped: "{\"column\":8,\"end\":38,\"first\":null,\"import\":\"e.proto\",\"kind\":\"no target\",\"line\":2,\"message\":\"no source has this path, below ROOT or a folder that `--include DIR` names: `\\\"e.\\\" 'proto'`\",\"name\":\"MissingImport\",\"offset\":26,\"path\":\"a.proto\"}
+{\"column\":13,\"end\":53,\"first\":null,\"import\":null,\"kind\":\"no target\",\"line\":3,\"message\":\"no type that this source sees has this name: `D`\",\"name\":\"Unresolved\",\"offset\":52,\"path\":\"a.proto\"}
 {\"column\":1,\"end\":null,\"first\":null,\"import\":null,\"kind\":\"skipped\",\"line\":1,\"message\":\"this character can't be here\",\"name\":\"BadByte\",\"offset\":0,\"path\":\"b.proto\"}
 {\"imports\":1,\"kind\":\"counts\",\"skipped\":1,\"sources\":1,\"status\":0,\"uses\":1}
 ",
         refused: "{\"column\":1,\"end\":null,\"first\":null,\"import\":null,\"kind\":\"fault\",\"line\":1,\"message\":\"this character can't be here\",\"name\":\"BadByte\",\"offset\":0,\"path\":\"b.proto\"}
-{\"column\":8,\"end\":38,\"first\":null,\"import\":\"e.proto\",\"kind\":\"fault\",\"line\":2,\"message\":\"no source has this path, below ROOT or a folder that is included\",\"name\":\"MissingImport\",\"offset\":26,\"path\":\"a.proto\"}
-{\"column\":13,\"end\":53,\"first\":null,\"import\":null,\"kind\":\"fault\",\"line\":3,\"message\":\"no type that this source sees has this name\",\"name\":\"Unresolved\",\"offset\":52,\"path\":\"a.proto\"}
+{\"column\":8,\"end\":38,\"first\":null,\"import\":\"e.proto\",\"kind\":\"fault\",\"line\":2,\"message\":\"no source has this path, below ROOT or a folder that `--include DIR` names: `\\\"e.\\\" 'proto'`\",\"name\":\"MissingImport\",\"offset\":26,\"path\":\"a.proto\"}
+{\"column\":13,\"end\":53,\"first\":null,\"import\":null,\"kind\":\"fault\",\"line\":3,\"message\":\"no type that this source sees has this name: `D`\",\"name\":\"Unresolved\",\"offset\":52,\"path\":\"a.proto\"}
 {\"imports\":1,\"kind\":\"counts\",\"skipped\":1,\"sources\":1,\"status\":1,\"uses\":1}
 ",
         alone: "{\"column\":1,\"end\":null,\"first\":null,\"import\":null,\"kind\":\"fault\",\"line\":1,\"message\":\"this character can't be here\",\"name\":\"BadByte\",\"offset\":0,\"path\":\"b.proto\"}
@@ -59,13 +59,13 @@ a.proto\nsyntax = \"proto3\";\nimport \"e.\" 'proto';\nmessage M { D d = 1; }\n"
     Row {
         files: "a.proto\nsyntax = \"proto3\";\nmessage M {\n  enum A { ZERO = 0; }\n  enum B { ZERO = 0; }\n}\n",
         duplicates: Duplicates::Refuse,
-        skipped: "{\"column\":12,\"end\":69,\"first\":{\"column\":12,\"end\":46,\"line\":3,\"offset\":42,\"path\":\"a.proto\"},\"import\":null,\"kind\":\"skipped\",\"line\":4,\"message\":\"this full name is given already\",\"name\":\"Duplicate\",\"offset\":65,\"path\":\"a.proto\"}
+        skipped: "{\"column\":12,\"end\":69,\"first\":{\"column\":12,\"end\":46,\"line\":3,\"offset\":42,\"path\":\"a.proto\"},\"import\":null,\"kind\":\"skipped\",\"line\":4,\"message\":\"this full name is given already: `ZERO`\",\"name\":\"Duplicate\",\"offset\":65,\"path\":\"a.proto\"}
 {\"imports\":0,\"kind\":\"counts\",\"skipped\":1,\"sources\":0,\"status\":0,\"uses\":0}
 ",
-        refused: "{\"column\":12,\"end\":69,\"first\":{\"column\":12,\"end\":46,\"line\":3,\"offset\":42,\"path\":\"a.proto\"},\"import\":null,\"kind\":\"fault\",\"line\":4,\"message\":\"this full name is given already\",\"name\":\"Duplicate\",\"offset\":65,\"path\":\"a.proto\"}
+        refused: "{\"column\":12,\"end\":69,\"first\":{\"column\":12,\"end\":46,\"line\":3,\"offset\":42,\"path\":\"a.proto\"},\"import\":null,\"kind\":\"fault\",\"line\":4,\"message\":\"this full name is given already: `ZERO`\",\"name\":\"Duplicate\",\"offset\":65,\"path\":\"a.proto\"}
 {\"imports\":0,\"kind\":\"counts\",\"skipped\":1,\"sources\":0,\"status\":1,\"uses\":0}
 ",
-        alone: "{\"column\":12,\"end\":69,\"first\":{\"column\":12,\"end\":46,\"line\":3,\"offset\":42,\"path\":\"a.proto\"},\"import\":null,\"kind\":\"fault\",\"line\":4,\"message\":\"this full name is given already\",\"name\":\"Duplicate\",\"offset\":65,\"path\":\"a.proto\"}
+        alone: "{\"column\":12,\"end\":69,\"first\":{\"column\":12,\"end\":46,\"line\":3,\"offset\":42,\"path\":\"a.proto\"},\"import\":null,\"kind\":\"fault\",\"line\":4,\"message\":\"this full name is given already: `ZERO`\",\"name\":\"Duplicate\",\"offset\":65,\"path\":\"a.proto\"}
 {\"imports\":0,\"kind\":\"counts\",\"skipped\":0,\"sources\":1,\"status\":1,\"uses\":0}
 ",
     },
@@ -75,13 +75,13 @@ b.proto\nsyntax = \"proto3\";\npackage p;\nimport \"a.proto\";\nimport \"c.proto
 c.proto\nsyntax = \"proto3\";\nmessage T {}\n",
         duplicates: Duplicates::Refuse,
         skipped: "{\"column\":1,\"end\":null,\"first\":null,\"import\":null,\"kind\":\"skipped\",\"line\":1,\"message\":\"this character can't be here\",\"name\":\"BadByte\",\"offset\":0,\"path\":\"a.proto\"}
-{\"column\":8,\"end\":46,\"first\":null,\"import\":\"a.proto\",\"kind\":\"no target\",\"line\":3,\"message\":\"the file with this path is left out\",\"name\":\"MissingImport\",\"offset\":37,\"path\":\"b.proto\"}
-{\"column\":13,\"end\":79,\"first\":{\"column\":null,\"end\":null,\"line\":null,\"offset\":null,\"path\":\"a.proto\"},\"import\":null,\"kind\":\"uncertain\",\"line\":5,\"message\":\"a file that this source sees can't be read: it may declare this name nearer\",\"name\":\"Uncertain\",\"offset\":78,\"path\":\"b.proto\"}
+{\"column\":8,\"end\":46,\"first\":null,\"import\":\"a.proto\",\"kind\":\"no target\",\"line\":3,\"message\":\"the file with this path is left out: `\\\"a.proto\\\"`\",\"name\":\"MissingImport\",\"offset\":37,\"path\":\"b.proto\"}
+{\"column\":13,\"end\":79,\"first\":{\"column\":null,\"end\":null,\"line\":null,\"offset\":null,\"path\":\"a.proto\"},\"import\":null,\"kind\":\"uncertain\",\"line\":5,\"message\":\"a file that this source sees can't be read: it may declare this name nearer: `T`\",\"name\":\"Uncertain\",\"offset\":78,\"path\":\"b.proto\"}
 {\"imports\":1,\"kind\":\"counts\",\"skipped\":1,\"sources\":2,\"status\":0,\"uses\":0}
 ",
         refused: "{\"column\":1,\"end\":null,\"first\":null,\"import\":null,\"kind\":\"fault\",\"line\":1,\"message\":\"this character can't be here\",\"name\":\"BadByte\",\"offset\":0,\"path\":\"a.proto\"}
-{\"column\":8,\"end\":46,\"first\":null,\"import\":\"a.proto\",\"kind\":\"fault\",\"line\":3,\"message\":\"the file with this path is left out\",\"name\":\"MissingImport\",\"offset\":37,\"path\":\"b.proto\"}
-{\"column\":13,\"end\":79,\"first\":{\"column\":null,\"end\":null,\"line\":null,\"offset\":null,\"path\":\"a.proto\"},\"import\":null,\"kind\":\"uncertain\",\"line\":5,\"message\":\"a file that this source sees can't be read: it may declare this name nearer\",\"name\":\"Uncertain\",\"offset\":78,\"path\":\"b.proto\"}
+{\"column\":8,\"end\":46,\"first\":null,\"import\":\"a.proto\",\"kind\":\"fault\",\"line\":3,\"message\":\"the file with this path is left out: `\\\"a.proto\\\"`\",\"name\":\"MissingImport\",\"offset\":37,\"path\":\"b.proto\"}
+{\"column\":13,\"end\":79,\"first\":{\"column\":null,\"end\":null,\"line\":null,\"offset\":null,\"path\":\"a.proto\"},\"import\":null,\"kind\":\"uncertain\",\"line\":5,\"message\":\"a file that this source sees can't be read: it may declare this name nearer: `T`\",\"name\":\"Uncertain\",\"offset\":78,\"path\":\"b.proto\"}
 {\"imports\":1,\"kind\":\"counts\",\"skipped\":1,\"sources\":2,\"status\":1,\"uses\":0}
 ",
         alone: "{\"column\":1,\"end\":null,\"first\":null,\"import\":null,\"kind\":\"fault\",\"line\":1,\"message\":\"this character can't be here\",\"name\":\"BadByte\",\"offset\":0,\"path\":\"a.proto\"}
@@ -94,13 +94,13 @@ b.proto\nsyntax = \"proto3\";\npackage p;\nmessage T {}\n|\
 c.proto\nsyntax = \"proto3\";\nmessage M { D d = 1; }\n|\
 d.proto\nsyntax = \"proto3\";\nimport \"b.proto\";\nmessage N { p.T t = 1; }\n",
         duplicates: Duplicates::Keep,
-        skipped: "{\"column\":13,\"end\":32,\"first\":null,\"import\":null,\"kind\":\"no target\",\"line\":2,\"message\":\"no type that this source sees has this name\",\"name\":\"Unresolved\",\"offset\":31,\"path\":\"c.proto\"}
+        skipped: "{\"column\":13,\"end\":32,\"first\":null,\"import\":null,\"kind\":\"no target\",\"line\":2,\"message\":\"no type that this source sees has this name: `D`\",\"name\":\"Unresolved\",\"offset\":31,\"path\":\"c.proto\"}
 {\"imports\":0,\"kind\":\"counts\",\"skipped\":0,\"sources\":4,\"status\":0,\"uses\":1}
 ",
-        refused: "{\"column\":13,\"end\":32,\"first\":null,\"import\":null,\"kind\":\"fault\",\"line\":2,\"message\":\"no type that this source sees has this name\",\"name\":\"Unresolved\",\"offset\":31,\"path\":\"c.proto\"}
+        refused: "{\"column\":13,\"end\":32,\"first\":null,\"import\":null,\"kind\":\"fault\",\"line\":2,\"message\":\"no type that this source sees has this name: `D`\",\"name\":\"Unresolved\",\"offset\":31,\"path\":\"c.proto\"}
 {\"imports\":0,\"kind\":\"counts\",\"skipped\":0,\"sources\":4,\"status\":1,\"uses\":1}
 ",
-        alone: "{\"column\":13,\"end\":32,\"first\":null,\"import\":null,\"kind\":\"fault\",\"line\":2,\"message\":\"no type that this source sees has this name\",\"name\":\"Unresolved\",\"offset\":31,\"path\":\"c.proto\"}
+        alone: "{\"column\":13,\"end\":32,\"first\":null,\"import\":null,\"kind\":\"fault\",\"line\":2,\"message\":\"no type that this source sees has this name: `D`\",\"name\":\"Unresolved\",\"offset\":31,\"path\":\"c.proto\"}
 {\"imports\":0,\"kind\":\"counts\",\"skipped\":0,\"sources\":4,\"status\":1,\"uses\":0}
 ",
     },

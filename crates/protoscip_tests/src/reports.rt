@@ -13,7 +13,7 @@ const TEXT: &str = "a\né b";
 /// A full name that is given again: first at the line's start, then behind `é `.
 const AGAIN: &str = "{\"column\":3,\"end\":6,\
      \"first\":{\"column\":1,\"end\":1,\"line\":1,\"offset\":0,\"path\":\"a b.proto\"},\
-     \"import\":null,\"kind\":\"skipped\",\"line\":2,\"message\":\"this full name is given already\",\
+     \"import\":null,\"kind\":\"skipped\",\"line\":2,\"message\":\"this full name is given already: `b`\",\
      \"name\":\"Duplicate\",\"offset\":5,\"path\":\"a b.proto\"}\n";
 
 /// An import that names no file.
@@ -24,13 +24,13 @@ const ABSENT: &str =
 /// A fault of no file.
 const LARGE: &str =
     "{\"column\":null,\"end\":null,\"first\":null,\"import\":null,\"kind\":\"fault\",\"line\":null,\
-     \"message\":\"too many\",\"name\":\"TooLarge\",\"offset\":null,\"path\":null}\n";
+     \"message\":\"met `{`: too many\",\"name\":\"TooLarge\",\"offset\":null,\"path\":null}\n";
 
 /// A use that a file makes uncertain.
 const UNCERTAIN: &str =
     "{\"column\":1,\"end\":5,\"first\":{\"column\":null,\"end\":null,\"line\":null,\"offset\":null,\
      \"path\":\"c d\\\\xe9.proto\"},\"import\":null,\"kind\":\"uncertain\",\"line\":2,\
-     \"message\":\"it may be another type\",\"name\":\"Uncertain\",\"offset\":2,\"path\":\"a b.proto\"}\n";
+     \"message\":\"it may be another type: `é `\",\"name\":\"Uncertain\",\"offset\":2,\"path\":\"a b.proto\"}\n";
 
 /// The last line.
 const COUNTS: &str =
@@ -41,7 +41,7 @@ const LOG: &str = "{\"$schema\":\"https://json.schemastore.org/sarif-2.1.0.json\
      \"runs\":[{\"columnKind\":\"unicodeCodePoints\",\"results\":[{\"level\":\"error\",\
      \"locations\":[{\"physicalLocation\":{\"artifactLocation\":{\"uri\":\"a%20b.proto\"},\
      \"region\":{\"byteLength\":1,\"byteOffset\":5,\"endColumn\":4,\"endLine\":2,\"startColumn\":3,\"startLine\":2}}}],\
-     \"message\":{\"text\":\"this full name is given already\"},\
+     \"message\":{\"text\":\"this full name is given already: `b`\"},\
      \"relatedLocations\":[{\"message\":{\"text\":\"it is given here\"},\
      \"physicalLocation\":{\"artifactLocation\":{\"uri\":\"a%20b.proto\"},\
      \"region\":{\"byteLength\":1,\"byteOffset\":0,\"endColumn\":2,\"endLine\":1,\"startColumn\":1,\"startLine\":1}}}],\
@@ -49,12 +49,12 @@ const LOG: &str = "{\"$schema\":\"https://json.schemastore.org/sarif-2.1.0.json\
      \"locations\":[{\"physicalLocation\":{\"artifactLocation\":{\"uri\":\"a%20b.proto\"},\
      \"region\":{\"byteOffset\":2,\"startColumn\":1,\"startLine\":2}}}],\
      \"message\":{\"text\":\"no source\"},\"relatedLocations\":[],\"ruleId\":\"MissingImport\"},\
-     {\"level\":\"error\",\"locations\":[],\"message\":{\"text\":\"too many\"},\"relatedLocations\":[],\
-     \"ruleId\":\"TooLarge\"},{\"level\":\"error\",\"locations\":[],\"message\":{\"text\":\"too many\"},\
+     {\"level\":\"error\",\"locations\":[],\"message\":{\"text\":\"met `{`: too many\"},\"relatedLocations\":[],\
+     \"ruleId\":\"TooLarge\"},{\"level\":\"error\",\"locations\":[],\"message\":{\"text\":\"met `{`: too many\"},\
      \"relatedLocations\":[],\"ruleId\":\"TooLarge\"},{\"level\":\"warning\",\
      \"locations\":[{\"physicalLocation\":{\"artifactLocation\":{\"uri\":\"a%20b.proto\"},\
      \"region\":{\"byteLength\":3,\"byteOffset\":2,\"endColumn\":3,\"endLine\":2,\"startColumn\":1,\"startLine\":2}}}],\
-     \"message\":{\"text\":\"it may be another type\"},\
+     \"message\":{\"text\":\"it may be another type: `é `\"},\
      \"relatedLocations\":[{\"message\":{\"text\":\"it can't be read\"},\
      \"physicalLocation\":{\"artifactLocation\":{\"uri\":\"c%20d%E9.proto\"}}}],\
      \"ruleId\":\"Uncertain\"}],\
@@ -93,6 +93,8 @@ fn again() -> Finding<'static> {
         name: "Duplicate",
         message: "this full name is given already",
         place: Some(at(5, Some(6))),
+        met: None,
+        named: Some(b"b"),
         first: Some(at(0, Some(1))),
         import: None,
     }
@@ -105,6 +107,8 @@ fn absent() -> Finding<'static> {
         name: "MissingImport",
         message: "no source",
         place: Some(at(2, None)),
+        met: None,
+        named: None,
         first: None,
         import: Some(b"'b.' /* ' */ \"proto\""),
     }
@@ -117,6 +121,8 @@ fn large() -> Finding<'static> {
         name: "TooLarge",
         message: "too many",
         place: None,
+        met: Some(b"{}"),
+        named: None,
         first: None,
         import: None,
     }
@@ -130,6 +136,8 @@ fn uncertain() -> Finding<'static> {
         name: "Uncertain",
         message: "it may be another type",
         place: Some(at(2, Some(5))),
+        met: None,
+        named: Some("é ".as_bytes()),
         first: Some(behind),
         import: None,
     }

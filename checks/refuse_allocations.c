@@ -7,6 +7,9 @@
 // with what was read: a list that doubles asks for twice what it holds, a list of tokens for 24 bytes for each byte of
 // a text at most. A length that a few bytes only claim isn't held.
 //
+// And it keeps two numbers of 8 bytes in the file that MEMORY_NOTE names: how many bytes the process asked for so far,
+// in all its allocations, and the most that it held at a time.
+//
 // Each call of malloc, calloc, realloc, reallocarray, aligned_alloc, memalign or posix_memalign counts
 // as one allocation. Needs glibc, whose own functions it passes the others on to.
 
@@ -15,6 +18,7 @@
 #include <malloc.h>
 #include <signal.h>
 #include <stddef.h>
+#include <stdint.h>
 #include <stdio.h>
 #include <stdlib.h>
 #include <sys/mman.h>
@@ -37,6 +41,14 @@ static unsigned long asked_at_least;
 static unsigned long seen;
 static size_t held;
 static int is_ready;
+
+// What MEMORY_NOTE has, if it names a file.
+struct memory {
+    uint64_t asked;
+    uint64_t most;
+};
+
+static struct memory *memory;
 
 // The number that this variable holds, or 0.
 static unsigned long number_in(const char *variable) {
@@ -181,6 +193,19 @@ static void try_all(void) {
     }
 }
 
+// The two numbers in the file that MEMORY_NOTE names, or NULL.
+static struct memory *memory_note(void) {
+    const char *path = getenv("MEMORY_NOTE");
+    int file = path == NULL ? -1 : open(path, O_RDWR | O_CREAT | O_TRUNC, 0600);
+    if (file < 0)
+        return NULL;
+    void *kept = MAP_FAILED;
+    if (ftruncate(file, sizeof(struct memory)) == 0)
+        kept = mmap(NULL, sizeof(struct memory), PROT_READ | PROT_WRITE, MAP_SHARED, file, 0);
+    close(file);
+    return kept == MAP_FAILED ? NULL : kept;
+}
+
 // At the start of the process, or at an allocation before.
 static __attribute__((constructor)) void prepare(void) {
     if (is_ready)
@@ -188,6 +213,7 @@ static __attribute__((constructor)) void prepare(void) {
     is_ready = 1;
     refused_number = number_in("REFUSE_ALLOCATION");
     asked_at_least = number_in("ASKED_AT_LEAST");
+    memory = memory_note();
     tried_note = note("TRIED_NOTE");
     if (tried_note >= 0)
         try_all();
@@ -210,6 +236,8 @@ static void judge(size_t asked) {
 static int is_refused(size_t asked) {
     prepare();
     judge(asked);
+    if (memory != NULL)
+        __atomic_add_fetch(&memory->asked, asked, __ATOMIC_SEQ_CST);
     unsigned long number = __atomic_add_fetch(&seen, 1, __ATOMIC_SEQ_CST);
     if (shared != NULL && refused_number != 0)
         follow(number);
@@ -225,10 +253,17 @@ static int is_refused(size_t asked) {
 }
 
 // Counts what was made, if it was, as held.
-static void *made(void *memory) {
-    if (memory != NULL)
-        __atomic_add_fetch(&held, malloc_usable_size(memory), __ATOMIC_SEQ_CST);
-    return memory;
+static void *made(void *memory_made) {
+    if (memory_made == NULL)
+        return NULL;
+    uint64_t now = __atomic_add_fetch(&held, malloc_usable_size(memory_made), __ATOMIC_SEQ_CST);
+    if (memory != NULL) {
+        uint64_t most = __atomic_load_n(&memory->most, __ATOMIC_SEQ_CST);
+        while (now > most &&
+               !__atomic_compare_exchange_n(&memory->most, &most, now, 0, __ATOMIC_SEQ_CST, __ATOMIC_SEQ_CST))
+            ;
+    }
+    return memory_made;
 }
 
 void *malloc(size_t size) { return is_refused(size) ? NULL : made(__libc_malloc(size)); }
@@ -248,11 +283,11 @@ void *reallocarray(void *old, size_t count, size_t size) {
     if (is_refused(bytes))
         return NULL;
     size_t before = old == NULL ? 0 : malloc_usable_size(old);
-    void *memory = __libc_realloc(old, bytes);
+    void *again = __libc_realloc(old, bytes);
     // A size of 0 frees.
-    if (memory != NULL || bytes == 0)
+    if (again != NULL || bytes == 0)
         __atomic_sub_fetch(&held, before, __ATOMIC_SEQ_CST);
-    return made(memory);
+    return made(again);
 }
 
 void *realloc(void *old, size_t size) { return reallocarray(old, 1, size); }
@@ -275,9 +310,9 @@ void *aligned_alloc(size_t alignment, size_t size) { return memalign(alignment, 
 int posix_memalign(void **to, size_t alignment, size_t size) {
     if (is_refused(size))
         return ENOMEM;
-    void *memory = made(__libc_memalign(alignment, size));
-    if (memory == NULL)
+    void *aligned = made(__libc_memalign(alignment, size));
+    if (aligned == NULL)
         return ENOMEM;
-    *to = memory;
+    *to = aligned;
     return 0;
 }

@@ -15,22 +15,18 @@ pub mod PartLemmas
 pub mod Reading
 -- Each step of a loop takes a token
 pub mod ReadingFallLemmas
--- A front of the tokens, and whether it goes on behind a token at which the machine stops
-pub mod RefusedFrontLemmas
+-- Where one more message or group may be inside the others
+pub mod DeepLemmas
+pub mod DeepFileLemmas
+-- Syntax statements: what is behind one that is read, and the fault of one that isn't
+pub mod SyntaxFrontLemmas
+pub mod RefusedSyntaxLemmas
 -- Tokens have at most one fault, and none if they derive a tree
 pub mod RefusedLemmas
--- The grammar as steps, and a machine that takes tokens one by one by the steps that are still to come
-pub mod RefusedMachine
--- The grammar as steps of the machine, production by production
-pub mod RefusedParts
--- The fault that reading meets is the one that the tokens have
-pub mod RefusedReadingLemmas
 -- The fault that is met is the one that the tokens have
-pub mod RefusedToldLemmas
+pub mod RefusedFileLemmas
 -- What holds of each of two lists in a row holds of each of both
 pub mod SplitLemmas
 -- The literals of a syntax statement, joined
 pub mod SyntaxJoinedLemmas
--- Syntax statements: what is behind one that is read, and the fault of one that isn't
-pub mod SyntaxVersionLemmas
 pub mod Walk

@@ -7,21 +7,20 @@ use Rattle.proto_grammar.proofs.RepetitionUntilLemmas.{Falls, adding-falls}
 use Rattle.proto_parse.proofs.Reading.Enums.{enum_item_at}
 use Rattle.proto_parse.proofs.Reading.Messages.{passed_item_at, item_at, inside_at}
 use Rattle.proto_parse.proofs.Reading.Services.{method_item_at, service_item_at}
-use Rattle.proto_parse.proofs.Reading.Files.{path_literal_at, statement_at}
+use Rattle.proto_parse.proofs.Reading.Files.{path_literal_at}
 use Rattle.proto_steps.specs.declared.statement.Within.{Within}
 use Rattle.proto_steps.specs.Choice.{item_of}
 use Rattle.proto_steps.specs.Grammar.Definitions.{enum_item, inside, passed_item, method_item, service_item}
 use Rattle.proto_steps.specs.Grammar.Definitions.{kept_literal}
-use Rattle.proto_steps.specs.Grammar.Definitions.{file_statement}
 use Rattle.proto_steps.proofs.MoveLemmas.{shorter}
 use Rattle.proto_steps.proofs.EnumLemmas.{enum_item_moves}
 use Rattle.proto_steps.proofs.MessageLemmas.{item_moves, passed_item_moves}
 use Rattle.proto_steps.proofs.ServiceLemmas.{method_item_moves, service_item_moves}
-use Rattle.proto_steps.proofs.FileLemmas.{kept_literal_moves, statement_moves}
+use Rattle.proto_steps.proofs.FileLemmas.{kept_literal_moves}
 use Rattle.proto_parse.proofs.Agreement.Enums.{enum_item_agrees}
 use Rattle.proto_parse.proofs.Agreement.Messages.{passed_item_agrees, item_agrees}
 use Rattle.proto_parse.proofs.Agreement.Services.{method_item_agrees, service_item_agrees}
-use Rattle.proto_parse.proofs.Agreement.Files.{kept_literal_agrees, statement_agrees}
+use Rattle.proto_parse.proofs.Agreement.Files.{kept_literal_agrees}
 
 pub enum_items_fall : (custom : CustomOptions) → Falls (adding (enum_item_at custom))
 enum_items_fall custom =
@@ -54,8 +53,3 @@ pub path_literals_fall : Falls (adding path_literal_at)
 path_literals_fall =
     adding-falls path_literal_at
     (λ place x e. shorter kept_literal kept_literal_moves place x.1 x.0 (kept_literal_agrees place ∙ e))
-
-pub statements_fall : (levels : ℕ) (syntax : Syntax) → Falls (statement_at levels syntax)
-statements_fall levels syntax file place x e =
-    shorter (file_statement levels syntax file) (statement_moves levels syntax file) place x.1 x.0
-    (statement_agrees levels syntax file place ∙ e)

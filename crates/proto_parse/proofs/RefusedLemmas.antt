@@ -1,36 +1,30 @@
 -- Tokens have at most one fault, and none if they derive a tree.
-use Rattle.std.proofs.Common.{◌≡◌, ℕ, Bool, true, false, cond, List, [], ◌∷◌, ◌++◌, refl, sym, ◌∙◌, ap, subst}
-use Rattle.std.proofs.Common.{codes}
+use Rattle.std.proofs.Common.{◌≡◌, ℕ, true, false, cond, List, [], ◌∷◌, ◌++◌, refl, sym, ◌∙◌, ap, subst, codes}
 use Rattle.std.proofs.Common.{append_assoc}
 use Rattle.proto_lex.specs.declared.token.TokenKind.{TokenKind}
-use Rattle.proto_lex.specs.declared.token.TokenKind.TheVariants.{Identifier, StringLiteral, OpenBrace}
-use Rattle.proto_lex.specs.declared.token.TokenKind.TheVariants.{OpenParenthesis}
+use Rattle.proto_lex.specs.declared.token.TokenKind.TheVariants.{Identifier, StringLiteral, OpenBrace, OpenParenthesis}
 use Rattle.proto_grammar.specs.declared.fault.SyntaxFault.{SyntaxFault}
 use Rattle.proto_grammar.specs.declared.fault.SyntaxFault.TheVariants.{NotProto3, CustomOption, Aggregate, Extend}
 use Rattle.proto_grammar.specs.declared.fault.SyntaxFault.TheVariants.{TwoPackages, ImportEscape, TooDeep, Grammar}
 use Rattle.proto_grammar.specs.declared.dialect.CustomOptions.TheVariants.{Refuse, Skip}
 use Rattle.proto_grammar.specs.declared.dialect.Dialect.{Dialect}
 use Rattle.proto_grammar.specs.declared.dialect.Dialect.TheVariants.{Proto3}
-use Rattle.proto_grammar.specs.declared.dialect.Syntax.{Syntax}
 use Rattle.proto_grammar.specs.declared.tree.File.{File}
 use Rattle.proto_grammar.specs.Lexeme.{Lexeme, place_of}
-use Rattle.proto_grammar.specs.Terminal.{is_kind, first_is, of_kind, is_word, offset_at}
-use Rattle.proto_grammar.specs.Grammar.Repetition.One.{one}
+use Rattle.proto_grammar.specs.Terminal.{is_kind, of_kind, is_word, offset_at}
 use Rattle.proto_grammar.specs.Syntax.{custom_in}
 use Rattle.proto_parse.specs.Faults.{is_of_custom_options}
 use Rattle.proto_steps.specs.Limits.{max_message_depth}
-use Rattle.proto_parse.specs.Grammar.Files.{IsSyntax, IsFileWithin}
-use Rattle.proto_parse.specs.Grammar.Files.IsFileWithin.{file}
+use Rattle.proto_steps.specs.Step.{Refused}
+use Rattle.proto_steps.specs.Grammar.Definitions.{syntax}
+use Rattle.proto_steps.proofs.StepLaws.{one_fault as one_syntax_fault}
 use Rattle.proto_parse.specs.Derives.{DerivesWithin}
-use Rattle.proto_parse.proofs.Found.Files.{as_relation}
-use Rattle.proto_parse.specs.Grammar.Files.IsSyntax.{proto3, proto2, no_statement as no_syntax}
 use Rattle.proto_parse.specs.Refused.{GoesOn, IsWrong, NamesNoVersion, WouldGoOn, IsRefused, group_start}
-use Rattle.proto_parse.specs.Refused.NamesNoVersion.{no_statement, edition, other as other_version}
 use Rattle.proto_parse.specs.Refused.WouldGoOn.{custom_option, aggregate, extend, two_packages, import_escape, too_deep}
 use Rattle.proto_parse.specs.Refused.WouldGoOn.{group_too_deep}
 use Rattle.proto_parse.specs.Refused.IsRefused.{not_proto3, would_go_on, wrong, missing}
-use Rattle.proto_grammar.proofs.TerminalTokenLemmas.{one_next, other_kind, other_word, next_other_word, word_kind}
-use Rattle.proto_parse.proofs.SyntaxJoinedLemmas.{joined_exact}
+use Rattle.proto_grammar.proofs.TerminalTokenLemmas.{other_kind, other_word, word_kind}
+use Rattle.proto_parse.proofs.RefusedSyntaxLemmas.{unnamed_told, named_by_syntax, syntax_of}
 
 -- ---- what goes on
 
@@ -94,43 +88,21 @@ none_wrong dialect tokens f t b on e w =
 
 -- ---- versions
 
--- the tests of the first token, in one list
-first_of : (word : List ℕ) (b : Bool) (a c : List Lexeme) → a ≡ c → first_is (is_word word) a ≡ b
-    → first_is (is_word word) c ≡ b
-first_of word b a c e is = subst (λ l. first_is (is_word word) l ≡ b) e is
+-- the fault of a version that isn't accepted, at the tokens
+told_at : {dialect : Dialect} {tokens f a : List Lexeme} (end : ℕ) → tokens ≡ f ++ a → NamesNoVersion dialect f a
+    → (l : List Lexeme) × Refused (syntax dialect) end tokens (NotProto3 (offset_at (place_of end a))) l
+told_at {dialect} {a = a} end e n =
+    let told = unnamed_told n end in
+    (told.0, subst (λ z. Refused (syntax dialect) end z (NotProto3 (offset_at (place_of end a))) told.0) (sym e) told.1)
 
-version_once : {dialect : Dialect} {f a g b : List Lexeme} → NamesNoVersion dialect f a → NamesNoVersion dialect g b
-    → f ++ a ≡ g ++ b → a ≡ b
-version_once (no_statement p) (no_statement q) e = e
-version_once (edition p) (edition q) e = e
-version_once (other_version {keyword = k} {equals = q} {a = a} p r l s x y)
-    (other_version {keyword = k'} {equals = q'} {a = b} p' r' l' s' x' y') e =
-    tails (tails e)
-version_once (no_statement p) (other_version is r l s x y) e =
-    absurd (let no : true ≡ false = sym is ∙ first_of (codes "syntax") false _ _ e p in cc)
-version_once (other_version is r l s x y) (no_statement p) e =
-    absurd (let no : true ≡ false = sym is ∙ first_of (codes "syntax") false _ _ (sym e) p in cc)
-version_once (edition p) (other_version {keyword = k} is r l s x y) e =
-    absurd (let no : true ≡ false = sym (first_of (codes "edition") true _ _ e p)
-    ∙ other_word (codes "syntax") (codes "edition") k refl is in cc)
-version_once (other_version {keyword = k} is r l s x y) (edition p) e =
-    absurd (let no : true ≡ false = sym (first_of (codes "edition") true _ _ (sym e) p)
-    ∙ other_word (codes "syntax") (codes "edition") k refl is in cc)
-
--- what names a version doesn't name none
-pub version_named : {dialect : Dialect} {f a b : List Lexeme} {x : Syntax} → NamesNoVersion dialect f a
-    → IsSyntax dialect (f ++ a) x b → ⊥
-version_named (no_statement p) (proto3 k q t s) = let no : true ≡ false = sym (one_next k) ∙ p in cc
-version_named (edition {a = a} p) (proto3 k q t s) =
-    let no : true ≡ false = sym p ∙ next_other_word (codes "syntax") (codes "edition") a refl (one_next k) in cc
-version_named (edition {a = a} p) (proto2 k q t s) =
-    let no : true ≡ false = sym p ∙ next_other_word (codes "syntax") (codes "edition") a refl (one_next k) in cc
-version_named (edition r) (no_syntax p q) = let no : true ≡ false = sym r ∙ q in cc
-version_named (other_version is r l spelled no3 no2) (proto3 (one k) (one q) t s) =
-    no3 (sym (joined_exact spelled).0 ∙ (joined_exact t).0)
-version_named (other_version is r l spelled no3 no2) (proto2 (one k) (one q) t s) =
-    no2 refl (sym (joined_exact spelled).0 ∙ (joined_exact t).0)
-version_named (other_version is r l spelled no3 no2) (no_syntax p q) = let no : true ≡ false = sym is ∙ p in cc
+version_once : {dialect : Dialect} {tokens f a g b : List Lexeme} (end : ℕ) → tokens ≡ f ++ a
+    → NamesNoVersion dialect f a → tokens ≡ g ++ b → NamesNoVersion dialect g b
+    → NotProto3 (offset_at (place_of end a)) ≡ NotProto3 (offset_at (place_of end b))
+version_once {dialect} {tokens} {a = a} {b = b} end e n e' n' =
+    let told = told_at end e n in
+    let second = told_at end e' n' in
+    one_syntax_fault (syntax dialect) end tokens told.0 second.0 (NotProto3 (offset_at (place_of end a)))
+    (NotProto3 (offset_at (place_of end b))) told.1 second.1
 
 -- ---- kinds
 
@@ -208,8 +180,7 @@ moved dialect f t g u {fault} v p q =
 
 pub one_fault : {dialect : Dialect} {tokens : List Lexeme} {end : ℕ} {fault second : SyntaxFault}
     → IsRefused dialect tokens end fault → IsRefused dialect tokens end second → fault ≡ second
-one_fault {end = end} (not_proto3 e n) (not_proto3 e' n') =
-    ap (λ left. NotProto3 (offset_at (place_of end left))) (version_once n n' (sym e ∙ e'))
+one_fault {end = end} (not_proto3 e n) (not_proto3 e' n') = version_once end e n e' n'
 one_fault (not_proto3 e n) (would_go_on b v e' w g) = absurd (v _ _ e n)
 one_fault (not_proto3 e n) (wrong b v e' w none) = absurd (v _ _ e n)
 one_fault (not_proto3 e n) (missing v on none) = absurd (v _ _ e n)
@@ -248,15 +219,10 @@ begins dialect tokens f t b tree d e = record {
   is_file = subst (λ all. DerivesWithin max_message_depth dialect all tree) (e ∙ sym (append_assoc f (t ∷ []) b)) d;
 }
 
--- the syntax statement of a file
-syntax_of : {levels : ℕ} {dialect : Dialect} {tokens : List Lexeme} {tree : File}
-    → IsFileWithin levels dialect tokens tree → (x : Syntax) × (b : List Lexeme) × IsSyntax dialect tokens x b
-syntax_of (file {b = b} {syntax = x} s u) = (x, b, s)
-
 pub no_fault : {dialect : Dialect} {tokens : List Lexeme} {end : ℕ} {fault : SyntaxFault} (tree : File)
     → DerivesWithin max_message_depth dialect tokens tree → IsRefused dialect tokens end fault → ⊥
-no_fault {dialect} tree d (not_proto3 e n) =
-    let s = syntax_of (as_relation d) in version_named n (subst (λ all. IsSyntax dialect all s.0 s.1) e s.2)
+no_fault {dialect} {tokens} tree d (not_proto3 e n) =
+    let s = syntax_of max_message_depth dialect tokens tree d in named_by_syntax dialect tokens s.1 s.0 s.2 _ _ e n
 no_fault {dialect} {tokens} tree d (would_go_on {front = f} {t = t} b v e w g) =
     w.here (begins dialect tokens f t b tree d e)
 no_fault {dialect} {tokens} tree d (wrong {front = f} {t = t} b v e w none) =

@@ -16,7 +16,8 @@ use Rattle.proto_lex.specs.declared.token.Token.{Token}
 use Rattle.proto_grammar.specs.Lexeme.{Lexeme, place_of, lexemes_of}
 use Rattle.proto_grammar.specs.Terminal.{first_is, of_kind, is_word, is_plain_literal, offset_at}
 use Rattle.proto_steps.specs.Limits.{max_message_depth}
-use Rattle.proto_parse.specs.Grammar.Files.{SpellsJoined}
+use Rattle.proto_steps.specs.Step.{Derives as DerivesBy, ◌>>=◌}
+use Rattle.proto_steps.specs.Grammar.Definitions.{content, more_contents}
 use Rattle.proto_parse.specs.Derives.{DerivesWithin}
 
 -- The front can be finished: some tokens behind it make a file, in which at most `levels` messages and groups are
@@ -38,9 +39,9 @@ pub data NamesNoVersion : Dialect → (front behind : List Lexeme) → Type 0 wh
   no_statement : {custom : CustomOptions} {a : List Lexeme} → first_is (is_word (codes "syntax")) a ≡ false
       → NamesNoVersion (Proto3 custom) [] a
   edition : {a : List Lexeme} → first_is (is_word (codes "edition")) a ≡ true → NamesNoVersion All [] a
-  other : {dialect : Dialect} {keyword equals : Lexeme} {a b : List Lexeme} {text : List ℕ}
+  other : {dialect : Dialect} {keyword equals : Lexeme} {a : List Lexeme} {text : List ℕ} (b : List Lexeme)
       → is_word (codes "syntax") keyword ≡ true → of_kind Equals equals ≡ true
-      → first_is (of_kind StringLiteral) a ≡ true → SpellsJoined a text b
+      → DerivesBy (content >>= more_contents) a text b
       → (text ≡ codes "proto3" → ⊥) → (dialect ≡ All → text ≡ codes "proto2" → ⊥)
       → NamesNoVersion dialect (keyword ∷ (equals ∷ [])) a
 

@@ -6,6 +6,7 @@ use Rattle.std.specs.List.{list_any}
 use Rattle.proto_lex.specs.declared.span.Span.{Span}
 use Rattle.proto_grammar.specs.declared.dialect.CustomOptions.{CustomOptions}
 use Rattle.proto_grammar.specs.declared.dialect.CustomOptions.TheVariants.{Refuse, Skip}
+use Rattle.proto_grammar.specs.declared.dialect.Dialect.{Dialect}
 use Rattle.proto_grammar.specs.declared.dialect.Dialect.TheVariants as dialects
 use Rattle.proto_grammar.specs.declared.dialect.Syntax.{Syntax}
 use Rattle.proto_grammar.specs.declared.dialect.Syntax.TheVariants.{Proto3, Extended, Proto2}
@@ -15,6 +16,7 @@ use Rattle.proto_grammar.specs.declared.tree.Item.{Item}
 use Rattle.proto_grammar.specs.declared.tree.File.{File}
 use Rattle.proto_grammar.specs.Lexeme.{Lexeme}
 use Rattle.proto_grammar.specs.Terminal.{is_word}
+use Rattle.proto_grammar.specs.Syntax.{proto3_in}
 use Rattle.proto_grammar.specs.Tree.{BlockTree}
 use Rattle.proto_steps.specs.Step.{Step, Done, Never, If, when, Derives, ◌>>=◌}
 use Rattle.proto_steps.specs.Grammar.Parts.{extension, part, dot_part, dot_parts, option_name, aggregate, constant}
@@ -252,20 +254,21 @@ no_proto2 : {P : Type 0} (b : Bool) (fault : ℕ → SyntaxFault) (a : List Lexe
 no_proto2 true fault a x c d = absurd d
 no_proto2 false fault a x c d = absurd d
 
-accepted_among : (custom : CustomOptions) (first : Span) (text : List ℕ) (a b : List Lexeme) (x : Syntax)
-    → Derives (accepted (dialects.Proto3 custom) first text) a x b
-    → (x ≡ Proto3 custom) × Derives (accepted dialects.All first text) a Extended b
+accepted_among : (custom : CustomOptions) (other : Dialect) (first : Span) (text : List ℕ) (a b : List Lexeme)
+    (x : Syntax) → Derives (accepted (dialects.Proto3 custom) first text) a x b
+    → (x ≡ Proto3 custom) × Derives (accepted other first text) a (proto3_in other) b
 unfolding accepted
-accepted_among custom first text a b x d =
+accepted_among custom other first text a b x d =
     either (when_derives (bytes_eq text (codes "proto3")) _ _ a x b d)
-    (λ e. (e.1.0, derives_when (bytes_eq text (codes "proto3")) _ _ a Extended b e.0 (refl, e.1.1)))
+    (λ e. (e.1.0, derives_when (bytes_eq text (codes "proto3")) _ _ a (proto3_in other) b e.0 (refl, e.1.1)))
     (λ e. no_proto2 (bytes_eq text (codes "proto2")) _ a x b e.1)
 
-syntax_among : (custom : CustomOptions) (a b : List Lexeme) (x : Syntax)
+-- What proto3 reads, each dialect reads as its proto3.
+pub syntax_among : (custom : CustomOptions) (other : Dialect) (a b : List Lexeme) (x : Syntax)
     → Derives (syntax (dialects.Proto3 custom)) a x b
-    → (x ≡ Proto3 custom) × Derives (syntax dialects.All) a Extended b
+    → (x ≡ Proto3 custom) × Derives (syntax other) a (proto3_in other) b
 unfolding syntax syntax_statement version spelled
-syntax_among custom a b x (inl d) =
+syntax_among custom other a b x (inl d) =
     let word = d.1 in
     let equals = word.3 in
     let named = equals.3 in
@@ -273,7 +276,7 @@ syntax_among custom a b x (inl d) =
     let content = peeked.3 in
     let text = content.3 in
     let end = named.3 in
-    let wide = accepted_among custom peeked.0.span text.0 text.1 named.1 named.0 text.3 in (
+    let wide = accepted_among custom other peeked.0.span text.0 text.1 named.1 named.0 text.3 in (
       end.3.0 ∙ wide.0,
       inl (
         d.0,
@@ -286,7 +289,7 @@ syntax_among custom a b x (inl d) =
             equals.1,
             equals.2,
             (
-              Extended,
+              proto3_in other,
               named.1,
               (
                 peeked.0,
@@ -300,14 +303,14 @@ syntax_among custom a b x (inl d) =
         ),
       ),
     )
-syntax_among custom a b x (inr d) = either d.1 (λ e. absurd e.1) (λ e. absurd e.1)
+syntax_among custom other a b x (inr d) = either d.1 (λ e. absurd e.1) (λ e. absurd e.1)
 
 pub file_among : (barred : Lexeme → Bool) (custom : CustomOptions) (levels : ℕ) → Shut barred custom
     → (a b : List Lexeme) (x : File) → Free barred a → Derives (file levels (dialects.Proto3 custom)) a x b
     → Derives (file levels dialects.All) a x b
 unfolding file
 file_among barred custom levels shut a b x free d =
-    let s = syntax_among custom a d.1 d.0 d.2 in
+    let s = syntax_among custom dialects.All a d.1 d.0 d.2 in
     let statements = subst (λ g. Derives (file_statements levels g) d.1 x b) s.0 d.3 in
     let behind = free_behind barred (taken (syntax (dialects.Proto3 custom)) a d.1 d.0 d.2) free in
     (Extended, d.1, s.1, among (file_statements_among barred custom levels shut) d.1 b x behind statements)

@@ -20,7 +20,7 @@ use Rattle.proto_steps.specs.declared.statement.FileStatement.TheVariants as cho
 use Rattle.proto_steps.specs.Step.{Step, when, run, Derives}
 use Rattle.proto_steps.specs.Choice.{file_statement_of, chosen_statement}
 use Rattle.proto_steps.specs.Grammar.Parts.{option_statement}
-use Rattle.proto_steps.specs.Grammar.Definitions.{heading, enumeration, service, message, inside}
+use Rattle.proto_steps.specs.Grammar.Definitions.{heading, enumeration, service, inside}
 use Rattle.proto_steps.specs.Grammar.Definitions.{accepted, spelled, version, syntax_statement, syntax, path_literal}
 use Rattle.proto_steps.specs.Grammar.Definitions.{kept_literal, import, package_statement, only_package}
 use Rattle.proto_steps.specs.Grammar.Definitions.{file_statement}
@@ -141,7 +141,7 @@ accepted_custom dialect first text a b x d =
     (λ e. either (when_derives (bytes_eq text (codes "proto2") && is_all dialect) _ _ a x b e.1)
     (λ f. proto2_custom dialect (bytes_eq text (codes "proto2")) x f.0 f.1.0) (λ f. absurd f.1))
 
-syntax_by_custom : (dialect : Dialect) (a b : List Lexeme) (x : Syntax) → Derives (syntax dialect) a x b
+pub syntax_by_custom : (dialect : Dialect) (a b : List Lexeme) (x : Syntax) → Derives (syntax dialect) a x b
     → custom_of x ≡ custom_in dialect
 unfolding syntax syntax_statement version spelled
 syntax_by_custom dialect a b x d =

@@ -22,7 +22,7 @@ use Rattle.proto_steps.proofs.StepLaws.{one_fault}
 pub less_of : {a b : List Lexeme} → IsTaken a b → length b ≤ length a
 less_of {a} {b} f = omega (arith, length-append f.0 b, ap length f.1)
 
-breaks_stay : {S : Type 0} {goes : Lexeme → Bool} {One : S → List Lexeme → S → List Lexeme → Type 0}
+pub breaks_stay : {S : Type 0} {goes : Lexeme → Bool} {One : S → List Lexeme → S → List Lexeme → Type 0}
     {Fault : S → List Lexeme → SyntaxFault → List Lexeme → Type 0} {end : ℕ}
     → ((s : S) (a b : List Lexeme) (t : S) → One s a t b → IsTaken a b)
     → ((s : S) (a : List Lexeme) (e : SyntaxFault) (l : List Lexeme) → Fault s a e l → IsTaken a l)
@@ -70,7 +70,7 @@ module _ (t : Lexeme) (b c : List Lexeme) where
   like_longer at = omega arith
   like_longer (before h) = omega (arith, like_longer h)
 
-  like_first : (test : Lexeme → Bool) {l m : List Lexeme} → Like l m → first_is test l ≡ first_is test m
+  pub like_first : (test : Lexeme → Bool) {l m : List Lexeme} → Like l m → first_is test l ≡ first_is test m
   like_first test at = refl
   like_first test (before h) = refl
 
@@ -83,7 +83,7 @@ module _ (t : Lexeme) (b c : List Lexeme) where
   like_here at e = refl
   like_here (before h) e = absurd (omega (arith, like_longer h, ap length e))
 
-  like_only : {k l m n : List Lexeme} → Like k m → Like l n → k ≡ l → m ≡ n
+  pub like_only : {k l m n : List Lexeme} → Like k m → Like l n → k ≡ l → m ≡ n
   like_only at at e = refl
   like_only at (before h) e = absurd (omega (arith, like_longer h, ap length e))
   like_only (before h) at e = absurd (omega (arith, like_longer h, ap length e))
@@ -92,7 +92,7 @@ module _ (t : Lexeme) (b c : List Lexeme) where
       let tails : k ≡ l = cc in
       ap (λ z. z ∷ m) heads ∙ ap (λ z. v ∷ z) (like_only h g tails)
 
-  like_head : {l m : List Lexeme} → Like l m → (u : Lexeme) (r : List Lexeme) → l ≡ u ∷ r
+  pub like_head : {l m : List Lexeme} → Like l m → (u : Lexeme) (r : List Lexeme) → l ≡ u ∷ r
       → (s : List Lexeme) × (m ≡ u ∷ s)
   like_head at u r e = let same : t ≡ u = cc in (c, ap (λ z. z ∷ c) same)
   like_head (before {u = v} {m = m} h) u r e = let same : v ≡ u = cc in (m, ap (λ z. z ∷ m) same)

@@ -4,6 +4,12 @@ pub mod StepLaws
 pub mod FirstLemmas
 pub mod FinishLemmas
 pub mod FrontLemmas
+pub mod EndLemmas
+pub mod EndFileLemmas
+pub mod ExplainLemmas
+pub mod ExplainLoopLemmas
+pub mod ExplainPartLemmas
+pub mod ExplainFileLemmas
 pub mod MoveLemmas
 pub mod SteadyLemmas
 pub mod SteadyFieldLemmas

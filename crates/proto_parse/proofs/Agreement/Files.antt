@@ -1,6 +1,6 @@
 -- Files as data are read as the functions on places read them.
 use Rattle.std.proofs.Common.{◌≡◌, ℕ, Bool, true, false, cond, ◌&&◌, not, Result, Ok, Err, Option, Some, is_some}
-use Rattle.std.proofs.Common.{option_map, option_to_list, List, [], ◌∷◌, ◌++◌, refl, sym, ap, subst, ◌∙◌, inl, codes}
+use Rattle.std.proofs.Common.{option_map, option_to_list, List, [], ◌∷◌, ◌++◌, refl, sym, ap, ◌∙◌, inl, codes}
 use Rattle.proto_lex.specs.declared.span.Span.{Span}
 use Rattle.proto_lex.specs.declared.token.TokenKind.TheVariants.{StringLiteral, Semicolon, Equals}
 use Rattle.proto_grammar.specs.declared.dialect.Dialect.{Dialect}
@@ -18,9 +18,8 @@ use Rattle.proto_grammar.specs.declared.tree.FileItem.TheVariants as item
 use Rattle.proto_grammar.specs.declared.tree.File.{File}
 use Rattle.proto_grammar.specs.Lexeme.{Lexeme, Place, place_of}
 use Rattle.proto_grammar.specs.Terminal.{first_is, of_kind, is_word, not_next, is_end, offset_at, behind}
-use Rattle.proto_grammar.specs.Syntax.{custom_of, custom_in, is_all}
+use Rattle.proto_grammar.specs.Syntax.{custom_of, is_all}
 use Rattle.proto_grammar.specs.Tree.{BlockTree}
-use Rattle.proto_grammar.specs.Gives.{Gives}
 use Rattle.proto_grammar.specs.Reading.Repetition.{and_then, token_that, adding as adding_at}
 use Rattle.proto_parse.specs.Grammar.Files.{empty_file}
 use Rattle.proto_parse.proofs.Reading.Messages.{inside_at}
@@ -30,8 +29,7 @@ use Rattle.proto_parse.proofs.Reading.Files.{only_package_at, statement_by, stat
 use Rattle.proto_steps.specs.declared.statement.FileStatement.{FileStatement}
 use Rattle.proto_steps.specs.declared.statement.FileStatement.TheVariants as choice
 use Rattle.proto_parse.specs.Derives.{DerivesWithin}
-use Rattle.proto_steps.specs.Step.{Done, Never, adding, when, run, Derives, Turns, ◌>>=◌}
-use Rattle.proto_steps.specs.Step.Turns.{ended, turn}
+use Rattle.proto_steps.specs.Step.{Done, Never, adding, when, run, ◌>>=◌}
 use Rattle.proto_steps.specs.Terminals.{is_token}
 use Rattle.proto_steps.specs.Choice.{file_statement_of, chosen_statement}
 use Rattle.proto_steps.specs.Grammar.Definitions.{inside, import_kind, kept_literal, path_literals, import}
@@ -41,7 +39,7 @@ use Rattle.proto_steps.proofs.AgreeLemmas.{bind_agree, turns_agree, twice, name_
 use Rattle.proto_steps.proofs.AgreeFieldLemmas.{next_taken}
 use Rattle.proto_steps.proofs.FileLemmas.{path_literal_agrees, kept_literal_moves, statement_moves, statement_chosen}
 use Rattle.proto_steps.proofs.JoinedLemmas.{version_agrees}
-use Rattle.proto_steps.proofs.StepLaws.{found, read}
+use Rattle.proto_steps.proofs.StepLaws.{read}
 use Rattle.proto_parse.proofs.Agreement.Enums.{enum_agrees}
 use Rattle.proto_parse.proofs.Agreement.Services.{service_agrees}
 use Rattle.proto_parse.proofs.Agreement.Messages.{inside_agrees, message_agrees, extend_statement_agrees}
@@ -215,37 +213,7 @@ unfolding run file file_at
 file_agrees levels dialect place =
     bind_agree (syntax_agrees dialect place) (λ (x : Syntax × Place). statements_agree levels x.0 x.1)
 
--- what is given by the one is given by the other
-pub given_at : (levels : ℕ) (dialect : Dialect) (place rest : Place) (result : Result File SyntaxFault)
-    → Gives (custom_in dialect) (λ x. x) rest result (run (file levels dialect) place)
-    → Gives (custom_in dialect) (λ x. x) rest result (file_at levels dialect place)
-given_at levels dialect place rest result gives =
-    subst (Gives (custom_in dialect) (λ x. x) rest result) (file_agrees levels dialect place) gives
-
--- ---- behind the last statement nothing is left
-
-no_token : (a : List Lexeme) → first_is is_token a ≡ false → a ≡ []
-no_token [] over = refl
-no_token (t ∷ rest) over = absurd (let never : true ≡ false = over in cc)
-
-turns_leave_none : {S : Type 0} {One : S → List Lexeme → S → List Lexeme → Type 0} {s t : S} {a b : List Lexeme}
-    → Turns is_token One s a t b → b ≡ []
-turns_leave_none (ended {a = a} over) = no_token a over
-turns_leave_none (turn go one less rest) = turns_leave_none rest
-
-file_leaves_none : (levels : ℕ) (dialect : Dialect) (a b : List Lexeme) (x : File)
-    → Derives (file levels dialect) a x b → b ≡ []
-unfolding file file_statements
-file_leaves_none levels dialect a b x d = turns_leave_none d.3
-
--- what is read derives, and what derives is read
-pub file_found : (levels : ℕ) (dialect : Dialect) (place : Place) (x : File × Place)
-    → file_at levels dialect place ≡ Ok x → DerivesWithin levels dialect place.left x.0
-file_found levels dialect place x e =
-    let d = found (file levels dialect) place x (file_agrees levels dialect place ∙ e) in
-    subst (Derives (file levels dialect) place.left x.0)
-    (file_leaves_none levels dialect place.left x.1.left x.0 d) d
-
+-- what derives is read
 pub file_exact : (end levels : ℕ) (dialect : Dialect) (a : List Lexeme) (x : File)
     → DerivesWithin levels dialect a x
     → (b : List Lexeme) × (file_at levels dialect (place_of end a) ≡ Ok (x, place_of end b))

@@ -1,6 +1,6 @@
 -- What is in the grammar is read: files.
-use Rattle.std.proofs.Common.{◌≡◌, ℕ, true, Option, Some, List, refl, sym, ◌∙◌, ap, codes}
-use Rattle.std.specs.Prelude.{Result, Ok, Err, MatchResult}
+use Rattle.std.proofs.Common.{◌≡◌, ℕ, true, Option, Some, List, refl, codes}
+use Rattle.std.specs.Prelude.{Ok}
 use Rattle.proto_lex.specs.declared.span.Span.{Span}
 use Rattle.proto_lex.specs.declared.token.TokenKind.TheVariants.{StringLiteral}
 use Rattle.proto_grammar.specs.declared.dialect.Dialect.{Dialect}
@@ -9,16 +9,11 @@ use Rattle.proto_grammar.specs.declared.dialect.Syntax.{Syntax}
 use Rattle.proto_grammar.specs.declared.dialect.Syntax.TheVariants.{Proto2}
 use Rattle.proto_grammar.specs.declared.tree.Import.{Import}
 use Rattle.proto_grammar.specs.declared.tree.ImportKind.{ImportKind}
-use Rattle.proto_grammar.specs.declared.tree.File.{File}
-use Rattle.proto_grammar.specs.declared.fault.SyntaxFault.{SyntaxFault}
-use Rattle.proto_grammar.specs.declared.fault.SyntaxFault.TheVariants.{Memory}
 use Rattle.proto_steps.specs.declared.statement.Version.{Version}
 use Rattle.proto_steps.specs.declared.statement.Version.TheVariants as version
 use Rattle.proto_grammar.specs.Lexeme.{Lexeme}
-use Rattle.proto_steps.specs.Limits.{max_message_depth}
-use Rattle.proto_grammar.specs.Gives.{Fails, Gives}
 use Rattle.proto_grammar.specs.Terminal.{not_next}
-use Rattle.proto_grammar.specs.Syntax.{custom_in, proto3_in}
+use Rattle.proto_grammar.specs.Syntax.{proto3_in}
 use Rattle.proto_steps.specs.Version.{version_of}
 use Rattle.proto_grammar.specs.Grammar.Repetition.{Adds}
 use Rattle.proto_parse.specs.Grammar.Files.{SpellsJoined, IsSyntax, IsImportKind, IsPathLiteral, IsImport, IsPackage}
@@ -32,19 +27,15 @@ use Rattle.proto_grammar.specs.Reading.Repetition.{adding}
 use Rattle.proto_steps.specs.Version.{syntax_by, version_at}
 use Rattle.proto_parse.proofs.Reading.Syntax.{syntax_statement_at, syntax_at}
 use Rattle.proto_parse.proofs.Reading.Files.{import_kind_at, path_literal_at, path_literals_at, import_at, package_at}
-use Rattle.proto_parse.proofs.Reading.Files.{file_at}
 use Rattle.proto_grammar.proofs.TerminalTokenLemmas.{token_exact, one_next, one_others, next_other_word}
 use Rattle.proto_grammar.proofs.RepetitionUntilLemmas.{until_at-exact, adding-exact}
 use Rattle.proto_parse.proofs.SyntaxJoinedLemmas.{joined_exact}
 use Rattle.proto_parse.proofs.ReadingFallLemmas.{path_literals_fall}
 use Rattle.proto_grammar.proofs.Exact.Names.{name_exact}
-use Rattle.proto_parse.specs.Derives.{DerivesWithin}
-use Rattle.proto_parse.proofs.Agreement.Files.{file_exact}
 use Rattle.std.proofs.Common.{None}
 use Rattle.proto_grammar.proofs.TerminalTokenLemmas.{plain_exact}
-use Rattle.proto_grammar.proofs.RepetitionStepLemmas.{same_ok}
 use Rattle.proto_grammar.specs.Terminal.{first_is, of_kind}
-use Rattle.proto_grammar.specs.Lexeme.{Place, place_of}
+use Rattle.proto_grammar.specs.Lexeme.{place_of}
 
 module _ (end : ℕ) where
   -- a text that names a version has literals
@@ -114,29 +105,3 @@ module _ (end : ℕ) where
       → package_at (place_of end a) ≡ Ok (x, place_of end b)
   unfolding package_at
   package_exact (package_statement k n s) = rw (token_exact end k, name_exact end n, token_exact end s) refl
-
--- tokens derive at most one tree
-pub same_tree : (dialect : Dialect) (a : List Lexeme) (tree other : File)
-    → DerivesWithin max_message_depth dialect a tree → DerivesWithin max_message_depth dialect a other → tree ≡ other
-same_tree dialect a tree other d e =
-    let x = file_exact 0 max_message_depth dialect a tree d in
-    let y = file_exact 0 max_message_depth dialect a other e in
-    ap (λ (z : File × Place). z.0) (same_ok (tree, place_of 0 x.0) (other, place_of 0 y.0) (sym x.1 ∙ y.1))
-
--- where a tree derives, a fault is want of memory
-pub only_memory : (end : ℕ) (dialect : Dialect) (a : List Lexeme) (tree : File) (fault : SyntaxFault)
-    → Fails (custom_in dialect) fault (file_at max_message_depth dialect (place_of end a))
-    → DerivesWithin max_message_depth dialect a tree → fault ≡ Memory
-only_memory end dialect a tree Memory fails d = refl
-only_memory end dialect a tree fault fails d =
-    let read = (file_exact end max_message_depth dialect a tree d).1 in cc
-
--- of what the parser gives
-pub file_of_exact : (dialect : Dialect) (tokens rest : Place) (result : Result File SyntaxFault)
-    → Gives (custom_in dialect) (λ x. x) rest result (file_at max_message_depth dialect tokens)
-    → (tree : File) → DerivesWithin max_message_depth dialect tokens.left tree
-    → MatchResult result (λ f. f ≡ tree) (λ fault. fault ≡ Memory)
-file_of_exact dialect tokens rest (Ok f) e tree d =
-    let read = file_exact tokens.end max_message_depth dialect tokens.left tree d in
-    ap (λ (z : File × Place). z.0) (same_ok (f, rest) (tree, place_of tokens.end read.0) (sym e ∙ read.1))
-file_of_exact dialect tokens rest (Err fault) e tree d = only_memory tokens.end dialect tokens.left tree fault e d

@@ -1,14 +1,12 @@
 -- What is read is in the grammar: files.
 use Rattle.std.proofs.Common.{◌≡◌, ℕ, false, ◌&&◌, not, cond, Option, Some, None, is_some, ◌⊎◌, inl, inr, List}
 use Rattle.std.proofs.Common.{[], ◌∷◌, refl, sym, subst, codes, bytes_eq}
-use Rattle.std.specs.Prelude.{Result, Ok, Err, IfOk}
-use Rattle.proto_grammar.specs.declared.fault.SyntaxFault.{SyntaxFault}
+use Rattle.std.specs.Prelude.{Ok, Err}
 use Rattle.proto_grammar.specs.declared.fault.SyntaxFault.TheVariants.{NotProto3, Grammar}
 use Rattle.proto_grammar.specs.declared.dialect.Dialect.{Dialect}
 use Rattle.proto_grammar.specs.declared.dialect.Dialect.TheVariants.{Proto3, All}
 use Rattle.proto_grammar.specs.declared.dialect.Syntax.{Syntax}
 use Rattle.proto_grammar.specs.declared.dialect.Syntax.TheVariants.{Proto2}
-use Rattle.proto_grammar.specs.Gives.{Gives}
 use Rattle.std.proofs.lemmas.Slice.Eq.{bytes_eq-Decides}
 use Rattle.proto_lex.specs.declared.span.Span.{Span}
 use Rattle.proto_lex.specs.declared.token.TokenKind.TheVariants.{StringLiteral, Semicolon, Equals}
@@ -23,7 +21,6 @@ use Rattle.proto_grammar.specs.Terminal.{first_is, of_kind, is_word, not_next, i
 use Rattle.proto_grammar.specs.Syntax.{custom_of, custom_in, proto3_in, is_all}
 use Rattle.proto_steps.specs.Choice.{file_statement_of}
 use Rattle.proto_steps.specs.Version.{version_of}
-use Rattle.proto_steps.specs.Limits.{max_message_depth}
 use Rattle.proto_grammar.specs.Grammar.Repetition.{One, Adds}
 use Rattle.proto_parse.specs.Grammar.Messages.{IsInside}
 use Rattle.proto_parse.specs.Grammar.Files.{empty_file, SpellsJoined, IsSyntax, IsImportKind, IsPathLiteral, IsImport}
@@ -57,7 +54,7 @@ use Rattle.proto_grammar.proofs.RepetitionUntilLemmas.{until_at-found, adding-fo
 use Rattle.proto_grammar.proofs.Found.Names.{name_found}
 use Rattle.proto_grammar.proofs.Found.Options.{option_found}
 use Rattle.proto_parse.specs.Derives.{DerivesWithin}
-use Rattle.proto_parse.proofs.Agreement.Files.{file_found, file_exact}
+use Rattle.proto_parse.proofs.Agreement.Files.{file_exact}
 use Rattle.proto_parse.proofs.Found.Messages.{enum_found, extend_statement_found, inside_found, message_found}
 use Rattle.proto_parse.proofs.Found.Messages.{service_found}
 use Rattle.proto_parse.proofs.SyntaxJoinedLemmas.{joined_found}
@@ -287,10 +284,3 @@ pub as_relation : {levels : ℕ} {dialect : Dialect} {a : List Lexeme} {x : File
 as_relation {levels} {dialect} {a} {x} d =
     let read = file_exact 0 levels dialect a x d in
     relation_found levels dialect (place_of 0 a) (x, place_of 0 read.0) read.1
-
--- of what the parser gives
-pub file_of_found : (dialect : Dialect) (tokens rest : Place) (result : Result File SyntaxFault)
-    → Gives (custom_in dialect) (λ x. x) rest result (file_at max_message_depth dialect tokens)
-    → IfOk result (λ f. DerivesWithin max_message_depth dialect tokens.left f)
-file_of_found dialect tokens rest (Ok f) e = file_found max_message_depth dialect tokens (f, rest) e
-file_of_found dialect tokens rest (Err fault) e = tt

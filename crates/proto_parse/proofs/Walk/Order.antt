@@ -1,7 +1,6 @@
 -- Marks are in order where the tokens are.
-use Rattle.std.proofs.Common.{◌≡◌, ℕ, ◌≤◌, List, [], ◌∷◌, map, refl, ap, arith}
+use Rattle.std.proofs.Common.{◌≡◌, ℕ, List, [], ◌∷◌, map, refl, ap, arith}
 use Rattle.proto_lex.proofs.LexedLemmas.{in_order_before as from_earlier}
-use Rattle.proto_lex.specs.declared.span.Span.{Span}
 use Rattle.proto_lex.specs.declared.token.Token.{Token}
 use Rattle.proto_lex.specs.Lexed.{AreInOrder}
 use Rattle.proto_grammar.specs.Lexeme.{Lexeme, lexemes_of}

@@ -1,4 +1,4 @@
-use Rattle.proto_parse.proofs.RefusedReadingLemmas.{tree_or_fault}
+use Rattle.proto_parse.proofs.RefusedFileLemmas.{tree_or_fault}
 use Rattle.proto_parse.proofs.laws.derives_or_has_a_fault.Goals as goal
 
 pub returns : goal.returns

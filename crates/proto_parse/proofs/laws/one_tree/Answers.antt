@@ -1,5 +1,5 @@
 use Rattle.proto_grammar.specs.Lexeme.{lexemes_of}
-use Rattle.proto_parse.proofs.Exact.Files.{same_tree}
+use Rattle.proto_parse.proofs.RefusedFileLemmas.{same_tree}
 use Rattle.proto_parse.proofs.laws.one_tree.Goals as goal
 
 pub returns : goal.returns

@@ -1,23 +1,15 @@
 -- What is in the grammar leaves fewer tokens.
-use Rattle.std.proofs.Common.{ℕ, ◌<◌, ◌≤◌, Bool, false, Option, List, length, arith}
+use Rattle.std.proofs.Common.{ℕ, ◌<◌, ◌≤◌, Bool, Option, List, length, arith}
 use Rattle.proto_lex.specs.declared.span.Span.{Span}
 use Rattle.proto_grammar.specs.declared.dialect.CustomOptions.{CustomOptions}
-use Rattle.proto_grammar.specs.declared.dialect.Syntax.{Syntax}
-use Rattle.proto_grammar.specs.declared.tree.Heading.{Heading}
-use Rattle.proto_grammar.specs.declared.tree.Label.{Label}
 use Rattle.proto_grammar.specs.declared.tree.TypeName.{TypeName}
-use Rattle.proto_grammar.specs.declared.tree.FieldType.{FieldType}
-use Rattle.proto_grammar.specs.declared.tree.Field.{Field}
-use Rattle.proto_grammar.specs.declared.tree.Group.{Group}
-use Rattle.proto_grammar.specs.declared.tree.MapField.{MapField}
 use Rattle.proto_grammar.specs.Lexeme.{Lexeme}
-use Rattle.proto_grammar.specs.Grammar.Names.{IsDotName, IsName, IsTypeName, IsType}
+use Rattle.proto_grammar.specs.Grammar.Names.{IsDotName, IsName, IsTypeName}
 use Rattle.proto_grammar.specs.Grammar.Names.IsDotName.{dot_name}
 use Rattle.proto_grammar.specs.Grammar.Names.IsName.{name}
 use Rattle.proto_grammar.specs.Grammar.Names.IsTypeName.{rooted, plain as plain_name}
-use Rattle.proto_grammar.specs.Grammar.Names.IsType.{scalar, named}
 use Rattle.proto_grammar.specs.Grammar.Options.{IsOptionPart, IsDotPart, IsOptionName, IsLiteral, IsStrings, IsClosed}
-use Rattle.proto_grammar.specs.Grammar.Options.{IsConstant, IsSetting, IsCommaSetting, IsOption, IsOptions}
+use Rattle.proto_grammar.specs.Grammar.Options.{IsConstant, IsSetting, IsCommaSetting}
 use Rattle.proto_grammar.specs.Grammar.Options.IsOptionPart.{plain as plain_part, extension}
 use Rattle.proto_grammar.specs.Grammar.Options.IsDotPart.{dot_part}
 use Rattle.proto_grammar.specs.Grammar.Options.IsOptionName.{option_name}
@@ -28,24 +20,12 @@ use Rattle.proto_grammar.specs.Grammar.Options.IsConstant.{name as a_name, signe
 use Rattle.proto_grammar.specs.Grammar.Options.IsConstant.{aggregate}
 use Rattle.proto_grammar.specs.Grammar.Options.IsSetting.{setting}
 use Rattle.proto_grammar.specs.Grammar.Options.IsCommaSetting.{comma_setting}
-use Rattle.proto_grammar.specs.Grammar.Options.IsOption.{option}
-use Rattle.proto_grammar.specs.Grammar.Options.IsOptions.{none, some}
-use Rattle.proto_grammar.specs.Grammar.Fields.{IsNumbered, IsTyped, IsLabel, IsField, IsGroupHead, IsMapField}
-use Rattle.proto_grammar.specs.Grammar.Fields.IsNumbered.{numbered}
-use Rattle.proto_grammar.specs.Grammar.Fields.IsTyped.{typed}
-use Rattle.proto_grammar.specs.Grammar.Fields.IsLabel.{repeated, optional, required, no_label}
-use Rattle.proto_grammar.specs.Grammar.Fields.IsField.{field}
-use Rattle.proto_grammar.specs.Grammar.Fields.IsGroupHead.{group_head}
-use Rattle.proto_grammar.specs.Grammar.Fields.IsMapField.{map_field}
 use Rattle.proto_grammar.specs.Grammar.Reserved.{IsInteger, IsRangeEnd, IsRange, IsReservedItem, IsCommaItem}
-use Rattle.proto_grammar.specs.Grammar.Reserved.{IsReserved, IsExtensions}
 use Rattle.proto_grammar.specs.Grammar.Reserved.IsInteger.{plain, minus}
 use Rattle.proto_grammar.specs.Grammar.Reserved.IsRangeEnd.{number, max}
 use Rattle.proto_grammar.specs.Grammar.Reserved.IsRange.{single, range}
 use Rattle.proto_grammar.specs.Grammar.Reserved.IsReservedItem.{name as reserved_name, number as reserved_number}
 use Rattle.proto_grammar.specs.Grammar.Reserved.IsCommaItem.{comma_item}
-use Rattle.proto_grammar.specs.Grammar.Reserved.IsReserved.{reserved}
-use Rattle.proto_grammar.specs.Grammar.Reserved.IsExtensions.{extensions}
 use Rattle.proto_grammar.proofs.TerminalTokenLemmas.{one_shorter}
 use Rattle.proto_grammar.proofs.RepetitionUntilLemmas.{Until-shorter, Adds-shorter, Passes-shorter}
 
@@ -59,10 +39,6 @@ name_shorter (name t u) =
 pub type_name_shorter : {a b : List Lexeme} {x : TypeName} → IsTypeName a x b → length b < length a
 type_name_shorter (rooted d n) = omega (arith, one_shorter d, name_shorter n)
 type_name_shorter (plain_name n) = name_shorter n
-
-type_shorter : {a b : List Lexeme} {x : FieldType} → IsType a x b → length b < length a
-type_shorter (scalar is w) = one_shorter w
-type_shorter (named not n) = type_name_shorter n
 
 part_shorter : {custom : CustomOptions} {a b : List Lexeme} → IsOptionPart custom a b → length b < length a
 part_shorter (plain_part n) = one_shorter n
@@ -102,67 +78,6 @@ pub comma_setting_shorter : (custom : CustomOptions) (a b : List Lexeme) → IsC
     → length b < length a
 comma_setting_shorter custom a b (comma_setting c s) = omega (arith, one_shorter c, setting_shorter s)
 
-pub option_shorter : {custom : CustomOptions} {a b : List Lexeme} → IsOption custom a b → length b < length a
-option_shorter (option k v s) = omega (arith, one_shorter k, setting_shorter v, one_shorter s)
-
-pub options_shorter : {custom : CustomOptions} {a b : List Lexeme} → IsOptions custom a b → length b ≤ length a
-options_shorter (none none_next) = omega arith
-options_shorter {custom} (some o v u c) =
-    omega (
-      arith,
-      one_shorter o,
-      setting_shorter v,
-      Until-shorter (Passes-shorter (IsCommaSetting custom) (comma_setting_shorter custom)) _ _ _ _ u,
-      one_shorter c,
-    )
-
-numbered_shorter : {custom : CustomOptions} {first : Span} {a b : List Lexeme} {x : Heading}
-    → IsNumbered custom first a x b → length b < length a
-numbered_shorter (numbered n q i o s) =
-    omega (arith, one_shorter n, one_shorter q, one_shorter i, options_shorter o, one_shorter s)
-
-pub typed_shorter : {custom : CustomOptions} {first : Span} {label : Option Label} {a b : List Lexeme} {x : Field}
-    → IsTyped custom first label a x b → length b < length a
-typed_shorter (typed t n) = omega (arith, type_shorter t, numbered_shorter n)
-
-pub label_shorter : {syntax : Syntax} {a b : List Lexeme} {x : Option Label} → IsLabel syntax a x b
-    → length b ≤ length a
-label_shorter (repeated w) = omega (arith, one_shorter w)
-label_shorter (optional w) = omega (arith, one_shorter w)
-label_shorter (required w) = omega (arith, one_shorter w)
-label_shorter (no_label is p q) = omega arith
-
-pub field_shorter : {custom : CustomOptions} {a b : List Lexeme} {x : Field} → IsField custom a x b
-    → length b < length a
-field_shorter (field l t) = omega (arith, label_shorter l, typed_shorter t)
-
-pub group_head_shorter : {custom : CustomOptions} {first : Span} {label : Option Label} {a b : List Lexeme} {x : Group}
-    → IsGroupHead custom first label a x b → length b < length a
-group_head_shorter (group_head w n q i o c) =
-    omega (
-      arith,
-      one_shorter w,
-      one_shorter n,
-      one_shorter q,
-      one_shorter i,
-      options_shorter o,
-      one_shorter c,
-    )
-
-pub map_field_shorter : {custom : CustomOptions} {a b : List Lexeme} {x : MapField} → IsMapField custom a x b
-    → length b < length a
-map_field_shorter (map_field f l k c v g h) =
-    omega (
-      arith,
-      one_shorter f,
-      one_shorter l,
-      one_shorter k,
-      one_shorter c,
-      type_shorter v,
-      one_shorter g,
-      numbered_shorter h,
-    )
-
 pub integer_shorter : {negative : Bool} {a b : List Lexeme} → IsInteger negative a b → length b < length a
 integer_shorter (plain n) = one_shorter n
 integer_shorter (minus m n) = omega (arith, one_shorter m, one_shorter n)
@@ -183,24 +98,3 @@ reserved_item_shorter (reserved_number r) = range_shorter r
 pub comma_item_shorter : (negative names : Bool) (a b : List Lexeme) → IsCommaItem negative names a b
     → length b < length a
 comma_item_shorter negative names a b (comma_item c i) = omega (arith, one_shorter c, reserved_item_shorter i)
-
-pub reserved_shorter : {negative : Bool} {a b : List Lexeme} → IsReserved negative a b → length b < length a
-reserved_shorter {negative} (reserved {names} k is i u s) =
-    omega (
-      arith,
-      one_shorter k,
-      reserved_item_shorter i,
-      Until-shorter (Passes-shorter (IsCommaItem negative names) (comma_item_shorter negative names)) _ _ _ _ u,
-      one_shorter s,
-    )
-
-pub extensions_shorter : {custom : CustomOptions} {a b : List Lexeme} → IsExtensions custom a b → length b < length a
-extensions_shorter (extensions k r u o s) =
-    omega (
-      arith,
-      one_shorter k,
-      range_shorter r,
-      Until-shorter (Passes-shorter (IsCommaItem false false) (comma_item_shorter false false)) _ _ _ _ u,
-      options_shorter o,
-      one_shorter s,
-    )

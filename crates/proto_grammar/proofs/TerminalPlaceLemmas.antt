@@ -113,9 +113,6 @@ first-offset text tokens place n e = e ∙ offset-by text tokens place (length t
 abbrev pub Behind : Place → Place → Type 0
 Behind p q = (tokens : List Lexeme) × (p.left ≡ tokens ++ q.left) × (q.end ≡ p.end)
 
-pub behind_here : (p : Place) → Behind p p
-behind_here p = ([], refl, refl)
-
 one_by : (left : List Lexeme) (end : ℕ) → Behind (place_of end left) (behind (place_of end left))
 one_by [] end = ([], refl, refl)
 one_by (t ∷ left) end = (t ∷ [], refl, refl)

@@ -63,7 +63,7 @@ a.proto:2:8: the file with this path is left out
     |        ^^^^^^^^^
 protoscip: 1 sources indexed, 1 skipped, 1 imports and 0 uses without a target",
         report: "{\"column\":null,\"end\":null,\"first\":null,\"import\":null,\"kind\":\"skipped\",\"line\":null,\"message\":\"it can't be read, or its name isn't UTF-8\",\"name\":\"Unreadable\",\"offset\":null,\"path\":\"n.proto\"}
-{\"column\":8,\"end\":35,\"first\":null,\"import\":\"n.proto\",\"kind\":\"no target\",\"line\":2,\"message\":\"the file with this path is left out\",\"name\":\"MissingImport\",\"offset\":26,\"path\":\"a.proto\"}
+{\"column\":8,\"end\":35,\"first\":null,\"import\":\"n.proto\",\"kind\":\"no target\",\"line\":2,\"message\":\"the file with this path is left out: `\\\"n.proto\\\"`\",\"name\":\"MissingImport\",\"offset\":26,\"path\":\"a.proto\"}
 {\"imports\":1,\"kind\":\"counts\",\"skipped\":1,\"sources\":1,\"status\":0,\"uses\":0}
 ",
     },

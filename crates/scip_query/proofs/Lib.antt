@@ -15,6 +15,8 @@ mod GroupLemmas
 mod InnermostLemmas
 -- Outlines: the order, the symbols that a document defines, and symbols around one
 mod OutlineLemmas
+-- Fronts: sorted texts that begin as another does, and the first of them
+mod FrontLemmas
 -- What is answered where nothing is found
 -- A run of a table: what compares as equal, which stands together where the table rises
 mod RunLemmas

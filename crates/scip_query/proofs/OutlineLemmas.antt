@@ -1,5 +1,5 @@
 -- Outlines: the order, the symbols that a document defines, and symbols around one.
-use Rattle.std.proofs.Common.{◌≡◌, ℕ, ◌+◌, ◌<◌, ◌≤◌, ◌==◌, Bool, true, false, not, ◌||◌, List, [], ◌∷◌, ◌++◌, length}
+use Rattle.std.proofs.Common.{◌≡◌, ℕ, ◌+◌, ◌<◌, ◌≤◌, ◌==◌, Bool, true, false, not, ◌&&◌, ◌||◌, List, [], ◌∷◌, ◌++◌, length}
 use Rattle.std.proofs.Common.{map, cond, get_or, take, refl, sym, ◌∙◌, ap, arith}
 use Rattle.std.specs.Borrow.{Bor}
 use Rattle.std.specs.Cmp.{IsTotalOrder}
@@ -90,3 +90,14 @@ pub depth_few : (inside : Bool) (depth after number : ℕ) → after ≡ depth +
     → after ≤ number + 1
 depth_few true depth after number put few = omega (arith, put)
 depth_few false depth after number put few = omega (arith, put)
+
+-- a symbol that goes on there is inside what the front is, and one that doesn't is inside nothing there
+pub inside_where : (ends some defined : Bool) → (ends && some) ≡ true → defined ≡ (ends && (some && defined))
+inside_where true true defined on = refl
+inside_where true false defined on = cc
+inside_where false some defined on = cc
+
+pub inside_nothing : (ends some defined : Bool) → (ends && some) ≡ false → false ≡ (ends && (some && defined))
+inside_nothing true true defined on = cc
+inside_nothing true false defined on = refl
+inside_nothing false some defined on = refl

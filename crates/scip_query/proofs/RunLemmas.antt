@@ -20,7 +20,7 @@ use Rattle.scip_query.specs.Tables.Runs.{Rises}
 not_below : (a b : ℕ) → b ≤ a → is_lt (nat_cmp a b) ≡ false
 not_below a b h = grind (arith, nat_tests)
 
-equal_is : (r : Ordering) → is_eq r ≡ true → r ≡ Equal
+pub equal_is : (r : Ordering) → is_eq r ≡ true → r ≡ Equal
 equal_is Less e = cc
 equal_is Equal e = refl
 equal_is Greater e = cc

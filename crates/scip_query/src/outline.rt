@@ -1,6 +1,8 @@
 //! The outline of a document.
 
-ghost use Rattle.std.specs.Prelude.{◌≡◌, ◌++◌, ◌<◌, Some, IfOk, OnOk, length, map, filter};
+ghost use Rattle.std.specs.Prelude.{ℕ, ◌+◌, ◌≡◌, ◌++◌, ◌<◌, ◌≤◌, ◌&&◌, List, Some, IfOk, OnOk, length, take, drop, map};
+ghost use Rattle.std.specs.Prelude.{filter};
+ghost use Rattle.std.specs.Option.{is_some};
 ghost use Rattle.std.specs.List.{slice_get};
 ghost use Rattle.std.specs.Ordering.{nat_cmp};
 ghost use Rattle.std.specs.Cmp.Lexicographic.{slice_cmp};
@@ -12,7 +14,6 @@ ghost use Rattle.scip_query.specs.Outline.{
   ends_descriptor,
   ends_descriptor_at,
   is_defined,
-  is_inside,
   depth_in,
   outlined,
   outlined_cmp,
@@ -20,7 +21,7 @@ ghost use Rattle.scip_query.specs.Outline.{
 };
 ghost use Rattle.scip_query.specs.Outcomes.{Gives};
 ghost use Rattle.scip_query.specs.Sorting.{sorted_by};
-ghost use Rattle.scip_query.specs.Tables.Outlines.{AreDefinedIn, defined_symbol, outlined_at};
+ghost use Rattle.scip_query.specs.Tables.Outlines.{AreDefinedIn, BeginIn, defined_symbol, outlined_at};
 ghost use Rattle.scip_query.specs.MoreViews.{outlined_view};
 ghost use Rattle.scip_query.specs.Views.{named_view};
 
@@ -93,14 +94,6 @@ fn table_of(alloc: Global, document: &Document) -> Result<Vec<&str>, AllocError>
     Ok(symbols)
 }
 
-/// Whether a text is among symbols that are sorted.
-fn is_defined(table: &[&str], text: &[u8]) -> bool
-    ensures { (d : Document) → AreDefinedIn d table.now → result ≡ is_defined d text.now }
-{
-    let found = run_of(table, |symbol| symbol.as_bytes().cmp(text));
-    !found.is_empty()
-}
-
 /// Whether a sign ends a descriptor.
 fn ends_descriptor(byte: u8) -> bool
     ensures { result ≡ ends_descriptor byte }
@@ -118,18 +111,47 @@ fn ends_at(symbol: &[u8], number: usize) -> bool
     }
 }
 
-/// Whether a symbol is inside the one that ends with its byte with a number.
-fn is_inside(table: &[&str], symbol: &[u8], number: usize) -> bool
+/// Whether a descriptor ends with the byte of a symbol with a number, and the symbol goes on behind that.
+fn goes_on(symbol: &[u8], number: usize) -> bool
     requires { number < length symbol.now }
-    ensures { (d : Document) → AreDefinedIn d table.now → result ≡ is_inside d symbol.now number }
+    ensures { result ≡ (ends_descriptor_at (slice_get symbol.now number) && is_some (slice_get symbol.now (number + 1))) }
 {
     if ends_at(symbol, number) {
         match symbol.get(number + 1) {
-            Some(_) => is_defined(table, symbol.split_at(number + 1).0),
+            Some(_) => true,
             None => false,
         }
     } else {
         false
+    }
+}
+
+/// The bytes of a text from one number to another.
+fn piece_of(text: &[u8], from: usize, end: usize) -> &[u8]
+    ensures { result.now ≡ drop from (take end text.now) }
+{
+    let front = text.split_at(end.min(text.len())).0;
+    front.split_at(from.min(front.len())).1
+}
+
+/// Of the symbols that begin as a symbol up to a byte, those that do up to a later one. Only what is between the two
+/// is compared.
+fn narrowed<'a, 'b>(run: &'a [&'b str], symbol: &[u8], from: usize, end: usize) -> &'a [&'b str]
+    requires { from ≤ end }
+    ensures { (d : Document) → BeginIn d symbol.now from run.now → BeginIn d symbol.now end result.now }
+{
+    let piece = piece_of(symbol, from, end);
+    run_of(run, |text| piece_of(text.as_bytes(), from, end).cmp(piece))
+}
+
+/// Whether so many bytes, with which some symbols that are sorted begin, are themselves one of them.
+fn is_first(run: &[&str], end: usize) -> bool
+    ensures { (d : Document) (symbol : List ℕ) → BeginIn d symbol end run.now → end ≤ length symbol → result
+        ≡ is_defined d (take end symbol) }
+{
+    match run {
+        [first, ..] => first.len() == end,
+        [] => false,
     }
 }
 
@@ -138,8 +160,14 @@ fn depth_in(table: &[&str], symbol: &[u8]) -> usize
     ensures { (d : Document) → AreDefinedIn d table.now → result ≡ depth_in d symbol.now }
 {
     let mut depth = 0;
+    let mut run = table;
+    let mut from = 0;
     for number in 0..symbol.len() {
-        depth = more_by(depth, is_inside(table, symbol, number));
+        if goes_on(symbol, number) {
+            run = narrowed(run, symbol, from, number + 1);
+            from = number + 1;
+            depth = more_by(depth, is_first(run, from));
+        }
     }
     depth
 }

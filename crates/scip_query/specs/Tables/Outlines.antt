@@ -1,9 +1,10 @@
 -- The table by which an outline looks for symbols.
-use Rattle.std.specs.Prelude.{◌≡◌, ℕ, cond, List, [], ◌∷◌, map}
+use Rattle.std.specs.Prelude.{◌≡◌, ℕ, Bool, cond, List, [], ◌∷◌, take, map, filter}
 use Rattle.std.specs.Borrow.{Bor}
 use Rattle.std.specs.declared.cmp.Ordering.{Ordering}
 use Rattle.std.specs.Ordering.{nat_cmp, on}
 use Rattle.std.specs.Cmp.Lexicographic.{slice_cmp}
+use Rattle.std.specs.Str.{bytes_eq}
 use Rattle.scip_records.specs.declared.records.Index.{Index}
 use Rattle.scip_records.specs.declared.records.Document.{Document}
 use Rattle.scip_records.specs.declared.records.Occurrence.{Occurrence}
@@ -20,6 +21,16 @@ pub record AreDefinedIn (d : Document) (table : List (Bor (List ℕ))) : Type 0 
   pub all : List (Bor (List ℕ))
   pub are : map text_of all ≡ defined_symbols d
   pub sorted : IsTable text_cmp all table
+
+-- whether a text begins as a symbol does, up to its n-th byte
+abbrev pub begins : (symbol : List ℕ) (n : ℕ) → List ℕ → Bool
+begins symbol n text = bytes_eq (take n text) (take n symbol)
+
+-- of the symbols that a document defines, sorted, those that do
+pub record BeginIn (d : Document) (symbol : List ℕ) (n : ℕ) (run : List (Bor (List ℕ))) : Type 0 where
+  pub table : List (Bor (List ℕ))
+  pub defined : AreDefinedIn d table
+  pub are : run ≡ filter (λ (b : Bor (List ℕ)). begins symbol n b.now) table
 
 -- the symbol of an occurrence, and the occurrence in an outline, if it defines a symbol
 abbrev pub defined_symbol : Occurrence → List (List ℕ)

@@ -64,7 +64,7 @@ pub use miss::Miss;
 pub use more_command::MoreCommand;
 pub use outline::Outlined;
 pub use place::Place;
-pub use position::Position;
+pub use position::{Position, compare_positions, end_of, start_of};
 pub use queries::Queries;
 pub use query_fault::QueryFault;
 pub use site::Site;

@@ -19,7 +19,7 @@ pub struct Position {
 }
 
 /// Where a range begins.
-fn start_of(range: Range) -> Position
+pub fn start_of(range: Range) -> Position
     ensures { result ≡ start_of range }
 {
     Position {
@@ -28,8 +28,8 @@ fn start_of(range: Range) -> Position
     }
 }
 
-/// Where it ends.
-fn end_of(range: Range) -> Position
+/// Where a range ends.
+pub fn end_of(range: Range) -> Position
     ensures { result ≡ end_of range }
 {
     Position {
@@ -38,8 +38,8 @@ fn end_of(range: Range) -> Position
     }
 }
 
-/// By line, then column.
-fn compare_positions(a: Position, b: Position) -> Ordering
+/// Which of two positions comes first: by line, then column.
+pub fn compare_positions(a: Position, b: Position) -> Ordering
     ensures { result ≡ position_cmp a b }
 {
     a.line.cmp(&b.line).then(a.column.cmp(&b.column))

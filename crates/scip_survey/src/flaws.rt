@@ -3,15 +3,13 @@
 ghost use Rattle.std.specs.Prelude.{◌≡◌, ◌++◌, IfOk, OnOk, map, option_copied};
 ghost use Rattle.std.specs.List.{enumerate_from, find, flat_map};
 ghost use Rattle.std.specs.Option.{is_none};
-ghost use Rattle.std.specs.Ordering.{is_lt};
-ghost use Rattle.scip_query.specs.Positions.{end_of, position_cmp, start_of};
 ghost use Rattle.scip_query.specs.Tables.{defines_listed};
 ghost use Rattle.scip_pages.specs.Columns.{unit_of};
 ghost use Rattle.scip_survey.specs.Flaws as spec;
 ghost use Rattle.scip_survey.specs.Views.{document_view, flawed_view};
 
 use scip_pages::{is_definition, unit_of};
-use scip_query::{Place, Position, Queries, defines_listed};
+use scip_query::{Place, Queries, compare_positions, defines_listed, end_of, start_of};
 use scip_records::{Document, Occurrence, Range};
 use std::alloc::{AllocError, Global};
 
@@ -92,38 +90,11 @@ fn lacks_unit(document: &Document) -> bool
     unit_of(document.position_encoding).is_none()
 }
 
-/// Where a range begins.
-fn start_of(range: Range) -> Position
-    ensures { result ≡ start_of range }
-{
-    Position {
-        line: range.start_line(),
-        column: range.start_column(),
-    }
-}
-
-/// Where it ends.
-fn end_of(range: Range) -> Position
-    ensures { result ≡ end_of range }
-{
-    Position {
-        line: range.end_line(),
-        column: range.end_column(),
-    }
-}
-
-/// Whether a position is before another.
-fn is_before(a: Position, b: Position) -> bool
-    ensures { result ≡ is_lt (position_cmp a b) }
-{
-    a.line.cmp(&b.line).then(a.column.cmp(&b.column)).is_lt()
-}
-
 /// Whether a range ends before it begins.
 fn is_backwards(range: Range) -> bool
     ensures { result ≡ spec.is_backwards range }
 {
-    is_before(end_of(range), start_of(range))
+    compare_positions(end_of(range), start_of(range)).is_lt()
 }
 
 /// Whether an occurrence isn't in the range that is said to enclose it.
@@ -132,8 +103,8 @@ fn is_outside(occurrence: &Occurrence) -> bool
 {
     match occurrence.enclosing_range {
         Some(whole) => {
-            is_before(start_of(occurrence.range), start_of(whole))
-                || is_before(end_of(whole), end_of(occurrence.range))
+            compare_positions(start_of(occurrence.range), start_of(whole)).is_lt()
+                || compare_positions(end_of(whole), end_of(occurrence.range)).is_lt()
         }
         None => false,
     }

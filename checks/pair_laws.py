@@ -41,10 +41,13 @@ def silent_words(room, tree, row, _):
 
 
 def explain_adds_lines(room, tree, row, _):
-    """--explain only adds lines."""
+    """--explain only adds lines, and where there is no terminal, --no-explain takes none away."""
     less, full = (room.index(tree, plain(row, **more)) for more in ({}, {"explain": ()}))
     rest = iter(full.err.splitlines())
-    return None if all(line in rest for line in less.err.splitlines()) else f"{less.err} is not in {full.err}"
+    if not all(line in rest for line in less.err.splitlines()):
+        return f"{less.err} is not in {full.err}"
+    both = room.index(tree, plain(row, explain=(), no_explain=()))
+    return difference(less, room.index(tree, plain(row, no_explain=()))) or difference(full, both)
 
 
 def real_is_spelled(room, tree, row, _):

@@ -32,6 +32,7 @@ OPTIONS = {
     "--report": (("../report",), ("../report", "--report-format", "sarif")),
     "--workers": (("1",), ("3",), ("16",)),
     "--explain": ((),),
+    "--no-explain": ((),),
     "--quiet": ((),),
     "--sync": ((),),
     "--max-skipped": (("0",), ("1",)),
@@ -39,7 +40,7 @@ OPTIONS = {
 }
 LIMITS = ("--max-skipped", "--min-sources")
 # Nothing of these is in an index.
-SILENT = ("--report", "--workers", "--explain", "--quiet", "--sync")
+SILENT = ("--report", "--workers", "--explain", "--no-explain", "--quiet", "--sync")
 # What --real stands for.
 REAL = {"--accept": ("all",), "--options": ("link",), "--faulty": ("skip",), "--duplicates": ("keep",),
         "--well-known": (), "--doc": ("both",), "--comments": ("clean",), "--details": ()}

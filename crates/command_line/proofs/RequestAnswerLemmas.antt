@@ -1,5 +1,5 @@
 -- What the answers of `clap` ask for.
-use Rattle.std.proofs.Common.{◌≡◌, ◌≢◌, List, [], ◌∷◌, inl, inr, true, refl, Option}
+use Rattle.std.proofs.Common.{◌≡◌, ◌≢◌, Bool, List, [], ◌∷◌, inl, inr, true, refl, Option}
 use Rattle.clap.specs.Words.{HasKind, Kinds, Row, Text, is_simple, is_simple_and_free, kind_of}
 use Rattle.clap.specs.declared.error.Error.{Error}
 use Rattle.clap.specs.declared.error.kind.ErrorKind.TheVariants as kind
@@ -20,18 +20,18 @@ unfolding clap_on_literals
 command_line_is_walked lists = refl
 
 -- words without a fault ask for the program that they name, if nothing is unfit
-pub asks_program : (kinds : Kinds) (program : Option (Text × List Row)) (r : Request) → kinds ≡ []
-    → AsksFor (is_unfit program) program r → AsksBy kinds program r
-asks_program [] program r e names = names
-asks_program (k ∷ ks) program r e names = absurd cc
+pub asks_program : (on_terminal : Bool) (kinds : Kinds) (program : Option (Text × List Row)) (r : Request) → kinds ≡ []
+    → AsksFor on_terminal (is_unfit program) program r → AsksBy on_terminal kinds program r
+asks_program on_terminal [] program r e names = names
+asks_program on_terminal (k ∷ ks) program r e names = absurd cc
 
 -- words with a fault ask for what its answer is
-pub asks_answer : (kinds : Kinds) (program : Option (Text × List Row)) (e : Error) (r : Request) → HasKind kinds e
-    → (kind_of e ≢ kind.OutOfMemory) × Prints (kind_of e) r → AsksBy kinds program r
-asks_answer [] program e r (inl memory) p = absurd (p.0 memory)
-asks_answer [] program e r (inr among) p = absurd among
-asks_answer (k ∷ ks) program e r (inl memory) p = absurd (p.0 memory)
-asks_answer (k ∷ ks) program e r (inr among) p = (kind_of e, among, p.1)
+pub asks_answer : (on_terminal : Bool) (kinds : Kinds) (program : Option (Text × List Row)) (e : Error) (r : Request)
+    → HasKind kinds e → (kind_of e ≢ kind.OutOfMemory) × Prints (kind_of e) r → AsksBy on_terminal kinds program r
+asks_answer on_terminal [] program e r (inl memory) p = absurd (p.0 memory)
+asks_answer on_terminal [] program e r (inr among) p = absurd among
+asks_answer on_terminal (k ∷ ks) program e r (inl memory) p = absurd (p.0 memory)
+asks_answer on_terminal (k ∷ ks) program e r (inr among) p = (kind_of e, among, p.1)
 
 -- an answer that is neither help nor the version is a refusal
 pub refuses : (r : Request) → Prints kind.ValueValidation r → IsRefused r

@@ -1,5 +1,5 @@
 -- What the programs are told by their options: a file for each, with its words, its rule and what it says.
-use Rattle.std.specs.Prelude.{◌≡◌, List, [], ◌∷◌, ◌++◌, codes, map, string_bytes}
+use Rattle.std.specs.Prelude.{Bool, ◌≡◌, List, [], ◌∷◌, ◌++◌, codes, map, string_bytes}
 use Rattle.std.specs.Option.{option_map}
 use Rattle.clap.specs.Words.{Row, Rule}
 use Rattle.command_line.specs.Arguments.{texts_at}
@@ -13,7 +13,7 @@ use Rattle.command_line.specs.Options.Details.{details_in, details_rule}
 use Rattle.command_line.specs.Options.Doc.{doc_of, doc_rule, doc_words}
 use Rattle.command_line.specs.Options.Duplicates.{duplicates_of, duplicates_rule, duplicates_words}
 use Rattle.command_line.specs.Options.Exclude.{exclude_of, exclude_rule}
-use Rattle.command_line.specs.Options.Explain.{explain_rule, explains_in}
+use Rattle.command_line.specs.Options.Explain.{explain_rule, explains_in, unexplained_rule}
 use Rattle.command_line.specs.Options.Faulty.{faulty_of, faulty_rule, faulty_words}
 use Rattle.command_line.specs.Options.Include.{folder_of, include_of, include_package_rule, include_rule}
 use Rattle.command_line.specs.Options.Include.{package_folders_of}
@@ -119,6 +119,7 @@ reading_rules lists = positions_rule lists.positions
     ∷ faulty_rule lists.faulty
     ∷ duplicates_rule lists.duplicates
     ∷ explain_rule
+    ∷ unexplained_rule
     ∷ []
 
 -- on which sources there are, how folders are searched, and on the report
@@ -141,7 +142,7 @@ index_option_rules lists = own_rules ++ tree_rules lists
 -- ---- what they say
 
 -- the options of `index` and of `shell` are those that the rows give, each by its name
-pub record Carries (rows : List Row) (options : IndexOptions) : Type 0 where
+pub record Carries (on_terminal : Bool) (rows : List Row) (options : IndexOptions) : Type 0 where
   pub root : string_bytes options.root ≡ text_of (codes "ROOT") rows
   pub is_real : options.is_real ≡ is_real rows
   pub workers : options.workers ≡ workers_of rows
@@ -162,7 +163,7 @@ pub record Carries (rows : List Row) (options : IndexOptions) : Type 0 where
   pub links_options : options.links_options ≡ links_options rows
   pub faulty : options.faulty ≡ faulty_of rows
   pub duplicates : options.duplicates ≡ duplicates_of rows
-  pub explain : options.explain ≡ explains_in rows
+  pub explain : options.explain ≡ explains_in on_terminal rows
   pub exclude : map string_bytes options.exclude.items ≡ exclude_of rows
   pub links : options.links ≡ links_of rows
   pub sources : option_map file_of options.sources ≡ sources_of rows
@@ -170,57 +171,57 @@ pub record Carries (rows : List Row) (options : IndexOptions) : Type 0 where
   pub report : CarriesReport rows options.report
 
 -- and so all that `index` is given
-pub record CarriesIndex (rows : List Row) (given : IndexRequest) : Type 0 where
-  pub options : Carries rows given.options
+pub record CarriesIndex (on_terminal : Bool) (rows : List Row) (given : IndexRequest) : Type 0 where
+  pub options : Carries on_terminal rows given.options
   pub out : string_bytes given.out ≡ text_of (codes "OUT") rows
   pub quiet : given.quiet ≡ quiet_in rows
   pub sync : given.sync ≡ sync_in rows
   pub limits : given.limits ≡ limits_of rows
 
 -- and all that `shell` is given
-pub record CarriesShell (rows : List Row) (given : ShellRequest) : Type 0 where
-  pub options : Carries rows given.options
+pub record CarriesShell (on_terminal : Bool) (rows : List Row) (given : ShellRequest) : Type 0 where
+  pub options : Carries on_terminal rows given.options
   pub more : given.more ≡ more_in rows
 
 -- and the options of `query`
-pub record CarriesQuery (rows : List Row) (options : QueryOptions) : Type 0 where
+pub record CarriesQuery (on_terminal : Bool) (rows : List Row) (options : QueryOptions) : Type 0 where
   pub indexes : map string_bytes options.indexes.items ≡ texts_of (codes "INDEX") rows
-  pub explain : options.explain ≡ explains_in rows
+  pub explain : options.explain ≡ explains_in on_terminal rows
   pub more : options.more ≡ more_in rows
   pub json : options.json ≡ json_in rows
 
 -- and what is asked in one line
-pub record CarriesAsk (rows : List Row) (options : AskOptions) : Type 0 where
+pub record CarriesAsk (on_terminal : Bool) (rows : List Row) (options : AskOptions) : Type 0 where
   pub indexes : map string_bytes options.indexes.items ≡ indexes_of rows
   pub asked : string_bytes options.asked ≡ asked_of options.verb rows
   pub root : option_map string_bytes options.root ≡ root_of rows
   pub json : options.json ≡ json_in rows
-  pub explain : options.explain ≡ explains_in rows
+  pub explain : options.explain ≡ explains_in on_terminal rows
 
 -- and so the options of `dump`
-pub record CarriesDump (rows : List Row) (options : DumpOptions) : Type 0 where
+pub record CarriesDump (on_terminal : Bool) (rows : List Row) (options : DumpOptions) : Type 0 where
   pub dialect : options.dialect ≡ dialect_of rows
-  pub explain : options.explain ≡ explains_in rows
+  pub explain : options.explain ≡ explains_in on_terminal rows
 
 -- and those of `snapshot`
-pub record CarriesSnapshot (rows : List Row) (options : SnapshotOptions) : Type 0 where
+pub record CarriesSnapshot (on_terminal : Bool) (rows : List Row) (options : SnapshotOptions) : Type 0 where
   pub indexes : map string_bytes options.indexes.items ≡ indexes_of rows
   pub root : string_bytes options.root ≡ text_of (codes "ROOT") rows
   pub to : option_map string_bytes options.to ≡ to_of rows
-  pub explain : options.explain ≡ explains_in rows
+  pub explain : options.explain ≡ explains_in on_terminal rows
 
 -- and those of `pages`
-pub record CarriesPages (rows : List Row) (options : PagesOptions) : Type 0 where
+pub record CarriesPages (on_terminal : Bool) (rows : List Row) (options : PagesOptions) : Type 0 where
   pub indexes : map string_bytes options.indexes.items ≡ indexes_of rows
   pub root : string_bytes options.root ≡ text_of (codes "ROOT") rows
   pub out : string_bytes options.out ≡ text_of (codes "OUT") rows
-  pub explain : options.explain ≡ explains_in rows
+  pub explain : options.explain ≡ explains_in on_terminal rows
 
 -- and those of `join`
-pub record CarriesJoin (rows : List Row) (options : JoinOptions) : Type 0 where
+pub record CarriesJoin (on_terminal : Bool) (rows : List Row) (options : JoinOptions) : Type 0 where
   pub out : string_bytes options.out ≡ text_of (codes "OUT") rows
   pub indexes : map string_bytes options.indexes.items ≡ texts_of (codes "INDEX") rows
   pub project_root : option_map string_bytes options.project_root ≡ joined_root_of rows
   pub replace : options.replace ≡ replaces_in rows
   pub sync : options.sync ≡ sync_in rows
-  pub explain : options.explain ≡ explains_in rows
+  pub explain : options.explain ≡ explains_in on_terminal rows

@@ -8,7 +8,7 @@ use Rattle.command_line.specs.Options.{index_option_rules, tree_rules}
 use Rattle.command_line.specs.Options.Accept.{accept_rule}
 use Rattle.command_line.specs.Options.Also.{also_rule}
 use Rattle.command_line.specs.Options.CustomOptions.{custom_options_rule}
-use Rattle.command_line.specs.Options.Explain.{explain_rule}
+use Rattle.command_line.specs.Options.Explain.{explain_rule, unexplained_rule}
 use Rattle.command_line.specs.Options.JoinedRoot.{joined_root_rule}
 use Rattle.command_line.specs.Options.Json.{json_rule}
 use Rattle.command_line.specs.Options.More.{more_rule}
@@ -50,7 +50,7 @@ shell_line lists = line_of (codes "shell") (shell_rules lists)
 abbrev pub query_line : Shape
 query_line =
     line_of (codes "query")
-    (repeated (required_rule (codes "INDEX")) ∷ more_rule ∷ json_rule ∷ explain_rule ∷ [])
+    (repeated (required_rule (codes "INDEX")) ∷ more_rule ∷ json_rule ∷ explain_rule ∷ unexplained_rule ∷ [])
 
 -- what asks in one line wants the path of an index, and what is asked about
 abbrev pub ask_line : Verb → Shape
@@ -62,12 +62,14 @@ ask_line verb =
     ∷ root_rule
     ∷ json_rule
     ∷ explain_rule
+    ∷ unexplained_rule
     ∷ [])
 
 -- what says how much an index has, or what is wrong with it, wants its path alone
 abbrev pub survey_line : Verb → Shape
 survey_line verb =
-    line_of (name_of verb) (required_rule (codes "INDEX") ∷ also_rule ∷ json_rule ∷ explain_rule ∷ [])
+    line_of (name_of verb)
+    (required_rule (codes "INDEX") ∷ also_rule ∷ json_rule ∷ explain_rule ∷ unexplained_rule ∷ [])
 
 -- and `print` may have the path of a document
 abbrev pub print_line : Shape
@@ -78,13 +80,20 @@ print_line =
     ∷ also_rule
     ∷ json_rule
     ∷ explain_rule
+    ∷ unexplained_rule
     ∷ [])
 
 -- `snapshot` wants the path of an index, and the folder with its sources; the paths of further indexes are an option's
 abbrev pub snapshot_line : Shape
 snapshot_line =
     line_of (codes "snapshot")
-    (required_rule (codes "INDEX") ∷ required_rule (codes "ROOT") ∷ also_rule ∷ to_rule ∷ explain_rule ∷ [])
+    (required_rule (codes "INDEX")
+    ∷ required_rule (codes "ROOT")
+    ∷ also_rule
+    ∷ to_rule
+    ∷ explain_rule
+    ∷ unexplained_rule
+    ∷ [])
 
 -- `pages` wants a folder for them, too
 abbrev pub pages_line : Shape
@@ -95,6 +104,7 @@ pages_line =
     ∷ required_rule (codes "OUT")
     ∷ also_rule
     ∷ explain_rule
+    ∷ unexplained_rule
     ∷ [])
 
 -- `join` wants the path of a file for the index, and then the paths of one index or more
@@ -107,12 +117,13 @@ join_line =
     ∷ replace_rule
     ∷ sync_rule
     ∷ explain_rule
+    ∷ unexplained_rule
     ∷ [])
 
 abbrev pub dump_line : WordLists → Shape
 dump_line lists =
     line_of (codes "dump")
-    (accept_rule lists.accept ∷ custom_options_rule lists.custom_options ∷ explain_rule ∷ [])
+    (accept_rule lists.accept ∷ custom_options_rule lists.custom_options ∷ explain_rule ∷ unexplained_rule ∷ [])
 
 -- `protoscip` has a version and wants a program
 abbrev pub no_program : App

@@ -346,6 +346,7 @@ fn readings<'a>(alloc: Global, lists: WordLists<'a>) -> Result<Vec<Arg<'a>>, All
         faulty::arg(alloc, lists.faulty),
         duplicates::arg(alloc, lists.duplicates),
         explain::arg(alloc),
+        explain::refused(alloc),
     ]?)
 }
 
@@ -391,8 +392,12 @@ pub(crate) fn add_index_options<'a>(
 }
 
 /// What a program about a tree is given.
-pub(crate) fn options_of(alloc: Global, given: &ArgMatches<'_>) -> Result<IndexOptions, AllocError>
-    ensures { IfOk result (Carries (rows_of (found_of given.now))) }
+pub(crate) fn options_of(
+    alloc: Global,
+    on_terminal: bool,
+    given: &ArgMatches<'_>,
+) -> Result<IndexOptions, AllocError>
+    ensures { IfOk result (Carries on_terminal (rows_of (found_of given.now))) }
 {
     Ok(IndexOptions {
         root: text_of(alloc, given, ROOT)?,
@@ -415,7 +420,7 @@ pub(crate) fn options_of(alloc: Global, given: &ArgMatches<'_>) -> Result<IndexO
         links_options: links_options(given),
         faulty: faulty_of(given),
         duplicates: duplicates_of(given),
-        explain: explains_in(given),
+        explain: explains_in(on_terminal, given),
         exclude: texts_of(alloc, given, exclude::NAME)?,
         links: links_of(given),
         sources: sources_of(alloc, given)?,
@@ -426,12 +431,13 @@ pub(crate) fn options_of(alloc: Global, given: &ArgMatches<'_>) -> Result<IndexO
 /// What `index` is given.
 pub(crate) fn index_request_of(
     alloc: Global,
+    on_terminal: bool,
     given: &ArgMatches<'_>,
 ) -> Result<IndexRequest, AllocError>
-    ensures { IfOk result (CarriesIndex (rows_of (found_of given.now))) }
+    ensures { IfOk result (CarriesIndex on_terminal (rows_of (found_of given.now))) }
 {
     Ok(IndexRequest {
-        options: options_of(alloc, given)?,
+        options: options_of(alloc, on_terminal, given)?,
         out: text_of(alloc, given, OUT)?,
         quiet: quiet_in(given),
         sync: sync_in(given),
@@ -442,12 +448,13 @@ pub(crate) fn index_request_of(
 /// What `shell` is given.
 pub(crate) fn shell_request_of(
     alloc: Global,
+    on_terminal: bool,
     given: &ArgMatches<'_>,
 ) -> Result<ShellRequest, AllocError>
-    ensures { IfOk result (CarriesShell (rows_of (found_of given.now))) }
+    ensures { IfOk result (CarriesShell on_terminal (rows_of (found_of given.now))) }
 {
     Ok(ShellRequest {
-        options: options_of(alloc, given)?,
+        options: options_of(alloc, on_terminal, given)?,
         more: more_in(given),
     })
 }
@@ -455,14 +462,15 @@ pub(crate) fn shell_request_of(
 /// What `query` is given.
 pub(crate) fn query_options_of(
     alloc: Global,
+    on_terminal: bool,
     given: &ArgMatches<'_>,
 ) -> Result<QueryOptions, AllocError>
-    ensures { IfOk result (CarriesQuery (rows_of (found_of given.now))) }
+    ensures { IfOk result (CarriesQuery on_terminal (rows_of (found_of given.now))) }
 {
     let indexes = texts_of(alloc, given, INDEX_FILE)?;
     Ok(QueryOptions {
         indexes,
-        explain: explains_in(given),
+        explain: explains_in(on_terminal, given),
         more: more_in(given),
         json: json_in(given),
     })
@@ -482,9 +490,10 @@ fn asked_of(alloc: Global, verb: Verb, given: &ArgMatches<'_>) -> Result<String,
 pub(crate) fn ask_options_of(
     alloc: Global,
     verb: Verb,
+    on_terminal: bool,
     given: &ArgMatches<'_>,
 ) -> Result<AskOptions, AllocError>
-    ensures carries { IfOk result (CarriesAsk (rows_of (found_of given.now))) }
+    ensures carries { IfOk result (CarriesAsk on_terminal (rows_of (found_of given.now))) }
     ensures verb { IfOk result (λ options. options.verb ≡ verb) }
 {
     let files = indexes_of(alloc, given)?;
@@ -495,41 +504,43 @@ pub(crate) fn ask_options_of(
         asked,
         root: optional_text_of(alloc, given, root::NAME)?,
         json: json_in(given),
-        explain: explains_in(given),
+        explain: explains_in(on_terminal, given),
     })
 }
 
 /// What `dump` is given.
-pub(crate) fn dump_options_of(given: &ArgMatches<'_>) -> DumpOptions
-    ensures { CarriesDump (rows_of (found_of given.now)) result }
+pub(crate) fn dump_options_of(on_terminal: bool, given: &ArgMatches<'_>) -> DumpOptions
+    ensures { CarriesDump on_terminal (rows_of (found_of given.now)) result }
 {
     DumpOptions {
         dialect: dialect_of(given),
-        explain: explains_in(given),
+        explain: explains_in(on_terminal, given),
     }
 }
 
 /// What `snapshot` is given.
 pub(crate) fn snapshot_options_of(
     alloc: Global,
+    on_terminal: bool,
     given: &ArgMatches<'_>,
 ) -> Result<SnapshotOptions, AllocError>
-    ensures { IfOk result (CarriesSnapshot (rows_of (found_of given.now))) }
+    ensures { IfOk result (CarriesSnapshot on_terminal (rows_of (found_of given.now))) }
 {
     Ok(SnapshotOptions {
         indexes: indexes_of(alloc, given)?,
         root: text_of(alloc, given, ROOT)?,
         to: optional_text_of(alloc, given, to::NAME)?,
-        explain: explains_in(given),
+        explain: explains_in(on_terminal, given),
     })
 }
 
 /// What `pages` is given.
 pub(crate) fn pages_options_of(
     alloc: Global,
+    on_terminal: bool,
     given: &ArgMatches<'_>,
 ) -> Result<PagesOptions, AllocError>
-    ensures { IfOk result (CarriesPages (rows_of (found_of given.now))) }
+    ensures { IfOk result (CarriesPages on_terminal (rows_of (found_of given.now))) }
 {
     let indexes = indexes_of(alloc, given)?;
     let root = text_of(alloc, given, ROOT)?;
@@ -538,16 +549,17 @@ pub(crate) fn pages_options_of(
         indexes,
         root,
         out,
-        explain: explains_in(given),
+        explain: explains_in(on_terminal, given),
     })
 }
 
 /// What `join` is given.
 pub(crate) fn join_options_of(
     alloc: Global,
+    on_terminal: bool,
     given: &ArgMatches<'_>,
 ) -> Result<JoinOptions, AllocError>
-    ensures { IfOk result (CarriesJoin (rows_of (found_of given.now))) }
+    ensures { IfOk result (CarriesJoin on_terminal (rows_of (found_of given.now))) }
 {
     let joined = text_of(alloc, given, OUT)?;
     Ok(JoinOptions {
@@ -556,6 +568,6 @@ pub(crate) fn join_options_of(
         project_root: optional_text_of(alloc, given, joined_root::NAME)?,
         replace: replaces_in(given),
         sync: sync_in(given),
-        explain: explains_in(given),
+        explain: explains_in(on_terminal, given),
     })
 }

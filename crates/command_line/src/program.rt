@@ -163,6 +163,7 @@ fn query_program<'a>(alloc: Global) -> Result<Command<'a>, AllocError>
         more::arg(alloc),
         json::arg(alloc),
         explain::arg(alloc),
+        explain::refused(alloc),
     ]?;
     program_of(alloc, QUERY, about, QUERY_EXAMPLE, args)
 }
@@ -220,6 +221,7 @@ fn ask_program<'a>(alloc: Global, verb: Verb) -> Result<Command<'a>, AllocError>
         root::arg(alloc),
         json::arg(alloc),
         explain::arg(alloc),
+        explain::refused(alloc),
     ]?;
     program_of(alloc, verb.name(), about_of(verb), example_of(verb), args)
 }
@@ -234,6 +236,7 @@ fn survey_program<'a>(alloc: Global, verb: Verb) -> Result<Command<'a>, AllocErr
         also::arg(alloc),
         json::arg(alloc),
         explain::arg(alloc),
+        explain::refused(alloc),
     ]?;
     program_of(alloc, verb.name(), about_of(verb), example_of(verb), args)
 }
@@ -249,6 +252,7 @@ fn print_program<'a>(alloc: Global) -> Result<Command<'a>, AllocError>
         also::arg(alloc),
         json::arg(alloc),
         explain::arg(alloc),
+        explain::refused(alloc),
     ]?;
     program_of(alloc, PRINT, about_of(Verb::Print), PRINT_EXAMPLE, args)
 }
@@ -265,6 +269,7 @@ fn snapshot_program<'a>(alloc: Global) -> Result<Command<'a>, AllocError>
         also::arg(alloc),
         to::arg(alloc),
         explain::arg(alloc),
+        explain::refused(alloc),
     ]?;
     program_of(alloc, SNAPSHOT, about, SNAPSHOT_EXAMPLE, args)
 }
@@ -282,6 +287,7 @@ fn pages_program<'a>(alloc: Global) -> Result<Command<'a>, AllocError>
         required(alloc, OUT, out),
         also::arg(alloc),
         explain::arg(alloc),
+        explain::refused(alloc),
     ]?;
     program_of(alloc, PAGES, about, PAGES_EXAMPLE, args)
 }
@@ -300,6 +306,7 @@ fn join_program<'a>(alloc: Global) -> Result<Command<'a>, AllocError>
         replace::arg(alloc),
         sync::arg(alloc),
         explain::arg(alloc),
+        explain::refused(alloc),
     ]?;
     program_of(alloc, JOIN, about, JOIN_EXAMPLE, args)
 }
@@ -314,6 +321,7 @@ fn dump_program<'a>(alloc: Global, lists: WordLists<'a>) -> Result<Command<'a>, 
         accept::arg(alloc, lists.accept),
         custom_options::arg(alloc, lists.custom_options),
         explain::arg(alloc),
+        explain::refused(alloc),
     ]?;
     program_of(alloc, DUMP, about, DUMP_EXAMPLE, args)
 }

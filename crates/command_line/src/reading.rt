@@ -35,24 +35,30 @@ use std::io;
 /// Why a command line is refused that isn't text, which the system allows.
 const OTHER_TEXT: &str = "invalid UTF-8 was detected in one or more arguments";
 
-/// Reads a command line, of which the first word is the program's name.
+/// Reads a command line, of which the first word is the program's name. `on_terminal` says whether faults go to a
+/// terminal, where they are explained unless that is refused.
 ///
 /// `Asks` says what it asks for, by the rules of `clap`.
-pub fn request_of(alloc: Global, words: &Vec<String>) -> Result<Request, AllocError>
-    ensures { IfOk result (Asks (map string_bytes words.now.items)) }
+pub fn request_of(
+    alloc: Global,
+    on_terminal: bool,
+    words: &Vec<String>,
+) -> Result<Request, AllocError>
+    ensures { IfOk result (Asks on_terminal (map string_bytes words.now.items)) }
 {
     let lists = WordLists::new();
     match program(alloc, lists)?.try_get_matches_from(words.as_slice()) {
-        Ok(matches) => asked(alloc, &matches),
+        Ok(matches) => asked(alloc, on_terminal, &matches),
         Err(error) => answer(alloc, &error),
     }
 }
 
 /// The program that a command line names, with what it is given; a form for a report without a file is refused, and so
 /// is a folder for the documents that is none, a list for `shell` where its commands are, and `--options link` if proto3
-/// sources alone are read.
-fn asked(alloc: Global, matches: &ArgMatches<'_>) -> Result<Request, AllocError>
-    ensures { IfOk result (AsksFor (is_unfit (subcommand_rows_of matches.now)) (subcommand_rows_of matches.now)) }
+/// sources alone are read. `on_terminal` says whether faults go to a terminal.
+fn asked(alloc: Global, on_terminal: bool, matches: &ArgMatches<'_>) -> Result<Request, AllocError>
+    ensures { IfOk result (AsksFor on_terminal (is_unfit (subcommand_rows_of matches.now))
+        (subcommand_rows_of matches.now)) }
 {
     if lacks_report(matches) {
         return refuse(alloc, FORM_ALONE);
@@ -66,7 +72,7 @@ fn asked(alloc: Global, matches: &ArgMatches<'_>) -> Result<Request, AllocError>
     if links_in_proto3(matches) {
         return refuse(alloc, NOT_OF_PROTO3);
     }
-    named(alloc, matches)
+    named(alloc, on_terminal, matches)
 }
 
 /// What is asked in one line, if the program that is named asks so, and what it is given.
@@ -109,58 +115,59 @@ fn surveying<'a, 'b>(matches: &'b ArgMatches<'a>) -> Option<(Verb, &'b ArgMatche
 }
 
 /// The program that a command line names, with what it is given.
-fn named(alloc: Global, matches: &ArgMatches<'_>) -> Result<Request, AllocError>
-    ensures { IfOk result (Names (subcommand_rows_of matches.now)) }
+fn named(alloc: Global, on_terminal: bool, matches: &ArgMatches<'_>) -> Result<Request, AllocError>
+    ensures { IfOk result (Names on_terminal (subcommand_rows_of matches.now)) }
 {
     if let Some(given) = matches.subcommand_matches(INDEX) {
-        return Ok(Request::Index(index_request_of(alloc, given)?));
+        return Ok(Request::Index(index_request_of(alloc, on_terminal, given)?));
     }
     if let Some(given) = matches.subcommand_matches(SHELL) {
-        return Ok(Request::Shell(shell_request_of(alloc, given)?));
+        return Ok(Request::Shell(shell_request_of(alloc, on_terminal, given)?));
     }
     if let Some(given) = matches.subcommand_matches(QUERY) {
-        return Ok(Request::Query(query_options_of(alloc, given)?));
+        return Ok(Request::Query(query_options_of(alloc, on_terminal, given)?));
     }
     if let Some(given) = matches.subcommand_matches(SNAPSHOT) {
-        return Ok(Request::Snapshot(snapshot_options_of(alloc, given)?));
+        return Ok(Request::Snapshot(snapshot_options_of(alloc, on_terminal, given)?));
     }
     if let Some(given) = matches.subcommand_matches(PAGES) {
-        return Ok(Request::Pages(pages_options_of(alloc, given)?));
+        return Ok(Request::Pages(pages_options_of(alloc, on_terminal, given)?));
     }
     if let Some(given) = matches.subcommand_matches(JOIN) {
-        return Ok(Request::Join(join_options_of(alloc, given)?));
+        return Ok(Request::Join(join_options_of(alloc, on_terminal, given)?));
     }
     match asking(matches) {
-        Some((verb, given)) => Ok(Request::Ask(ask_options_of(alloc, verb, given)?)),
-        None => Ok(Request::Dump(dump_options(matches))),
+        Some((verb, given)) => Ok(Request::Ask(ask_options_of(alloc, verb, on_terminal, given)?)),
+        None => Ok(Request::Dump(dump_options(on_terminal, matches))),
     }
 }
 
 /// What `dump` is given, if it is the program that is named.
-fn dump_options(matches: &ArgMatches<'_>) -> DumpOptions
-    ensures { CarriesDump (rows_in (subcommand_rows_of matches.now)) result }
+fn dump_options(on_terminal: bool, matches: &ArgMatches<'_>) -> DumpOptions
+    ensures { CarriesDump on_terminal (rows_in (subcommand_rows_of matches.now)) result }
 {
     match matches.subcommand() {
-        Some((_, given)) => dump_options_of(given),
+        Some((_, given)) => dump_options_of(on_terminal, given),
         None => DumpOptions {
             dialect: Dialect::Proto3(CustomOptions::Refuse),
-            explain: false,
+            explain: on_terminal,
         },
     }
 }
 
 /// What the words of a command line ask for, the first of them the program's name. If the system gives an error in
-/// their place, a word isn't UTF-8, which is refused, or memory ran out.
+/// their place, a word isn't UTF-8, which is refused, or memory ran out. `on_terminal` is as `request_of` has it.
 pub fn request_of_process(
     alloc: Global,
+    on_terminal: bool,
     words: io::Result<Vec<String>>,
 ) -> Result<Request, AllocError>
-    ensures words { IfOk words (λ words. IfOk result (Asks (map string_bytes words.items))) }
+    ensures words { IfOk words (λ words. IfOk result (Asks on_terminal (map string_bytes words.items))) }
     ensures other_text { IfErr words (λ _. IfOk result IsRefused) }
     ensures memory { IfErr words (λ error. error_kind error ≡ Memory → IsErr result) }
 {
     match words {
-        Ok(words) => request_of(alloc, &words),
+        Ok(words) => request_of(alloc, on_terminal, &words),
         Err(error) if error.kind() == io::ErrorKind::OutOfMemory => Err(AllocError),
         Err(_) => refuse(alloc, OTHER_TEXT),
     }

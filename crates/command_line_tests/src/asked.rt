@@ -35,8 +35,12 @@ fn text_of(alloc: Global, request: &Request) -> Result<String, AllocError> {
 pub(crate) enum By {
     /// As a list.
     List,
+    /// As a list, where faults are said on a terminal.
+    ListOnTerminal,
     /// As the system gives them.
     System,
+    /// As the system gives them, where faults are said on a terminal.
+    SystemOnTerminal,
     /// As the system gives them if one of them is no text.
     Fault,
 }
@@ -45,9 +49,11 @@ pub(crate) enum By {
 fn request_by(alloc: Global, arguments: &str, by: By) -> Result<Request, AllocError> {
     let words = words_of(alloc, arguments)?;
     match by {
-        By::List => request_of(alloc, &words),
-        By::System => request_of_process(alloc, Ok(words)),
-        By::Fault => request_of_process(alloc, Err(io::Error::from(ErrorKind::InvalidData))),
+        By::List => request_of(alloc, false, &words),
+        By::ListOnTerminal => request_of(alloc, true, &words),
+        By::System => request_of_process(alloc, false, Ok(words)),
+        By::SystemOnTerminal => request_of_process(alloc, true, Ok(words)),
+        By::Fault => request_of_process(alloc, false, Err(io::Error::from(ErrorKind::InvalidData))),
     }
 }
 

@@ -105,10 +105,11 @@ Arguments:
   <INDEX>...  A file with a SCIP index
 
 Options:
-      --more     Knows more commands, as on a terminal; the command help lists them
-      --json     Answers in JSON, with one object on a line
-      --explain  Explains a fault: adds its line and column, a sentence, and the text of that line
-  -h, --help     Print help
+      --more        Knows more commands, as on a terminal; the command help lists them
+      --json        Answers in JSON, with one object on a line
+      --explain     Explains a fault: adds its line and column, a sentence, and the text of that line
+      --no-explain  Doesn't explain a fault, on a terminal either
+  -h, --help        Print help
 
 Example: list the symbols of a document:
 
@@ -131,6 +132,7 @@ Options:
       --also <INDEX>  A file with an index that is taken as one with INDEX; may be given again
       --to <DIR>      Writes each document to a file below this folder; if not given, they are printed
       --explain       Explains a fault: adds its line and column, a sentence, and the text of that line
+      --no-explain    Doesn't explain a fault, on a terminal either
   -h, --help          Print help
 
 Example: show the sources below api with what the index says about them:
@@ -154,6 +156,7 @@ Arguments:
 Options:
       --also <INDEX>  A file with an index that is taken as one with INDEX; may be given again
       --explain       Explains a fault: adds its line and column, a sentence, and the text of that line
+      --no-explain    Doesn't explain a fault, on a terminal either
   -h, --help          Print help
 
 Example: make pages of the sources below api; then open pages/index.html in a browser:
@@ -178,6 +181,7 @@ Options:
       --replace             Takes the later of two documents with one path; without it, they are refused
       --sync                Waits until the disk has what is written, and its folder's entry (fsync)
       --explain             Explains a fault: adds its line and column, a sentence, and the text of that line
+      --no-explain          Doesn't explain a fault, on a terminal either
   -h, --help                Print help
 
 Example: make one index of those of two parts of a project:
@@ -202,6 +206,7 @@ Options:
       --root <DIR>    The folder with the sources that were indexed: answers show their lines
       --json          Answers in JSON, with one object on a line
       --explain       Explains a fault: adds its line and column, a sentence, and the text of that line
+      --no-explain    Doesn't explain a fault, on a terminal either
   -h, --help          Print help
 
 Example: show the line that defines a type, by its name or by a use of it:
@@ -226,6 +231,7 @@ Options:
       --also <INDEX>  A file with an index that is taken as one with INDEX; may be given again
       --json          Answers in JSON, with one object on a line
       --explain       Explains a fault: adds its line and column, a sentence, and the text of that line
+      --no-explain    Doesn't explain a fault, on a terminal either
   -h, --help          Print help
 
 Example: show what an index says of a source, as JSON:
@@ -245,6 +251,7 @@ Options:
       --accept <WORD>          Which sources are read: proto3 alone, or proto2 too, with extend and custom options [default: proto3] [possible values: proto3, all]
       --custom-options <WORD>  What to do with custom options: refuse the source, or skip them, as --accept all always does [default: refuse] [possible values: refuse, skip]
       --explain                Explains a fault: adds its line and column, a sentence, and the text of that line
+      --no-explain             Doesn't explain a fault, on a terminal either
   -h, --help                   Print help
 
 Example: print the occurrences of a source, past its custom options:

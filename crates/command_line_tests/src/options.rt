@@ -59,6 +59,8 @@ pub(crate) const OPTIONS: &str = "      --real
           What to do with a name that several files declare: refuse them, or keep each for whoever sees it [default: refuse] [possible values: refuse, keep]
       --explain
           Explains a fault: adds its line and column, a sentence, and the text of that line
+      --no-explain
+          Doesn't explain a fault, on a terminal either
       --exclude <GLOB>
           Leaves out files and folders by name or path, as .git, which is searched otherwise; may be given again
       --links <WORD>
@@ -354,6 +356,29 @@ fn what_is_asked_for(rt: HostRuntime) -> Result<(), Fail> {
         let text = asked(rt.alloc(), row.words, By::List)?;
         see(&rt, text.as_str() == row.request, text.as_str());
     }
+    Ok(())
+}
+
+// Where faults are said on a terminal, they are explained unless that is refused.
+const ON_TERMINAL: [(&str, &str); 6] = [
+    ("dump", "explain: true"),
+    ("dump --no-explain", "explain: false"),
+    ("dump --explain --no-explain", "explain: true"),
+    ("index api out", "explain: true"),
+    ("shell api --no-explain", "explain: false"),
+    ("join out a b --no-explain", "explain: false"),
+];
+
+#[test]
+fn faults_are_explained_on_a_terminal(rt: HostRuntime) -> Result<(), Fail> {
+    for (words, told) in &ON_TERMINAL {
+        let text = asked(rt.alloc(), *words, By::ListOnTerminal)?;
+        see(&rt, text.as_str().contains(*told), text.as_str());
+        let text = asked(rt.alloc(), *words, By::SystemOnTerminal)?;
+        see(&rt, text.as_str().contains(*told), text.as_str());
+    }
+    let text = asked(rt.alloc(), "dump --no-explain", By::List)?;
+    see(&rt, text.as_str().contains("explain: false"), text.as_str());
     Ok(())
 }
 

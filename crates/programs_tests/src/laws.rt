@@ -18,7 +18,7 @@ fn is_named(alloc: Global, asked: &Result<Request, AllocError>) -> bool {
 /// Whether the words `index api out` ask for an index that goes to `out`.
 fn is_asked(alloc: Global) -> Result<bool, AllocError> {
     let words = words_of(alloc, "index api out")?;
-    let asked = request_of(alloc, &words);
+    let asked = request_of(alloc, false, &words);
     Ok(is_named(alloc, &asked))
 }
 

@@ -93,7 +93,7 @@ fn listed_for(alloc: Global, request: &Request) -> Result<String, AllocError> {
 /// Sees what is listed for one command line; memory may run out.
 fn see_case(rt: &impl Abort, alloc: Global, case: &Case) -> Result<(), AllocError> {
     let (line, held, listed, due, said) = *case;
-    let asked = request_of(alloc, &words_of(alloc, line)?)?;
+    let asked = request_of(alloc, false, &words_of(alloc, line)?)?;
     let mut told = [0u8; 256];
     let mut messages = Std::new(told.as_mut_slice());
     let mut input = Std::new(held.as_bytes());

@@ -369,7 +369,7 @@ fn runs_so<R: Threads + Wait + Clock + Eprint + Sync>(
     words: &Vec<String>,
     row: &Row,
 ) -> Option<bool> {
-    let asked = request_of(alloc, words);
+    let asked = request_of(alloc, false, words);
     ends_so(rt, alloc, &asked, row)
 }
 

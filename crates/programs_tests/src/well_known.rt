@@ -130,7 +130,7 @@ fn included_in(alloc: Global, request: &Request) -> Result<String, AllocError> {
 /// Sees what becomes of one command line; memory may run out.
 fn see_case(rt: &impl Abort, alloc: Global, case: &Case) -> Result<(), AllocError> {
     let (line, paths, path, folders, known, said) = *case;
-    let asked = request_of(alloc, &words_of(alloc, line)?)?;
+    let asked = request_of(alloc, false, &words_of(alloc, line)?)?;
     let path = Some(String::from_str(alloc, path)?);
     let mut told = [0u8; 256];
     let mut messages = Std::new(told.as_mut_slice());

@@ -20,7 +20,7 @@ fn asked_of_process<M: Sink>(
     messages: &mut M,
 ) -> Result<(Request, Option<String>), AllocError> {
     let words = env::args(rt).and_then(|words| Ok(words.collect(rt.alloc())?));
-    let asked = request_of_process(rt.alloc(), words)?;
+    let asked = request_of_process(rt.alloc(), rt.stderr().is_terminal(), words)?;
     let path = variable(env::var(rt, "PATH"))?;
     with_well_known(rt.alloc(), &SystemFiles::new(rt), &path, asked, messages)
 }

@@ -19,8 +19,8 @@ returns-in-Ok c =
     (λ r names. (
       lists,
       c.new-lists.ensures,
-      asks_program _ _ r (sym same ∙ none)
-          (subst (λ (p : Option (Text × List Row)). AsksFor (is_unfit p) p r) program names),
+      asks_program c.args.on_terminal _ _ r (sym same ∙ none)
+          (subst (λ (p : Option (Text × List Row)). AsksFor c.args.on_terminal (is_unfit p) p r) program names),
     ))
     c.asked.ensures
 
@@ -34,6 +34,7 @@ returns-in-Err c =
     (λ r p. (
       lists,
       c.new-lists.ensures,
-      asks_answer _ _ c.in-Err.error r (subst (λ (ks : Kinds). HasKind ks c.in-Err.error) same some) p,
+      asks_answer c.args.on_terminal _ _ c.in-Err.error r
+          (subst (λ (ks : Kinds). HasKind ks c.in-Err.error) same some) p,
     ))
     c.answer.ensures

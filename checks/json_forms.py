@@ -5,7 +5,8 @@ usage: checks/json_forms.py FORM < LINES: says what of each line isn't as the fo
 `answer`, `record`, `stats` or `flaw`. The exit status is 0 only where nothing is wrong.
 
 `sarif` is a log in SARIF 2.1.0 (OASIS Standard, 27 March 2020), as far as ours may go: each object that ours may have,
-with the members that the standard gives it, by its section. The other forms are those of docs/FORMATS.md.
+with the members that the standard gives it, by its section. The other forms are those of docs/QUERIES.md and
+docs/INDEXING.md.
 """
 
 import json

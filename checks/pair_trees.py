@@ -96,7 +96,7 @@ class Tree:
 
     def unreadable(self):
         """What can't be read: files that are closed, and names that aren't UTF-8, of files or of folders, as they are
-        told (docs/USAGE.md); by the paths of the files."""
+        told (docs/INDEXING.md); by the paths of the files."""
         found = {}
         for path, file in self.files.items():
             parts = path.split(b"/")

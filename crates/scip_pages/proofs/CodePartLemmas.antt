@@ -24,7 +24,8 @@ use Rattle.scip_pages.specs.Targets.{place_url, uses_id}
 use Rattle.scip_pages.specs.CodeText.{beginning, code_text, lead, line_at, line_by, line_text, spans_of}
 use Rattle.scip_pages.specs.Crumbs.{crumbs_text, file_url, folder_text, folder_url, folders_on, head_text, last_text}
 use Rattle.scip_pages.specs.Crumbs.{names_text, style_text}
-use Rattle.scip_pages.specs.Uses.{all_defined, defined_head, defined_name, defined_text, is_use, label_at, places_text}
+use Rattle.scip_pages.specs.Targets.{label_at}
+use Rattle.scip_pages.specs.Uses.{all_defined, defined_head, defined_name, defined_text, is_use, places_text}
 use Rattle.scip_pages.specs.Uses.{use_link, use_name, use_or_none, use_text, uses_text}
 use Rattle.scip_pages.specs.Page.{main_text, start_text}
 use Rattle.scip_pages.specs.Tags.{Tag, Data, bare, tag_with}
@@ -218,41 +219,41 @@ module _ (P : List ℕ → Type 0) where
       urls = (p, tt);
     }
 
-    pub fine_head_of : (unit : ColumnUnit) (lines : List (List ℕ)) (links : List Link) (place : Place)
+    pub fine_head_of : (unit : ColumnUnit) (lines : List (List ℕ)) (place : Place)
         → P (codes "#L" ++ decimal (line_listed index.documents place))
-        → Fine P (defined_head index unit lines links place)
-    fine_head_of unit lines links place p =
+        → Fine P (defined_head index unit lines place)
+    fine_head_of unit lines place p =
         let start : List ℕ = places_text place.occurrence (line_listed index.documents place) in
         let name : List ℕ = escape (defined_name index unit lines place) in
         let middle : List ℕ = codes "</b> <span>" in
-        let label : List ℕ = escape (label_at links place.occurrence) in
+        let label : List ℕ = escape (label_at index place) in
         both P (start ++ name ++ middle ++ label) (codes "</span></a></dt>\n")
         (both P (start ++ name ++ middle) label
         (both P (start ++ name) middle
         (both P start name (fine_places place.occurrence (line_listed index.documents place) p)
         (fine_escape P (defined_name index unit lines place)))
         (fine_const P middle refl refl))
-        (fine_escape P (label_at links place.occurrence)))
+        (fine_escape P (label_at index place)))
         (fine_const P (codes "</span></a></dt>\n") refl refl)
 
-    pub fine_defined : (unit : ColumnUnit) (lines : List (List ℕ)) (links : List Link) (place : Place)
+    pub fine_defined : (unit : ColumnUnit) (lines : List (List ℕ)) (place : Place)
         → P (codes "#L" ++ decimal (line_listed index.documents place))
         → ((other : Place) → In other (references_in index place.document (symbol_listed index.documents place))
         → has_page sources other.document ≡ true → P (place_url index place.document other))
-        → Fine P (defined_text index sources unit lines links place)
-    fine_defined unit lines links place p leads =
-        both P (defined_head index unit lines links place) (uses_text index sources place)
-        (fine_head_of unit lines links place p) (fine_uses place leads)
+        → Fine P (defined_text index sources unit lines place)
+    fine_defined unit lines place p leads =
+        both P (defined_head index unit lines place) (uses_text index sources place)
+        (fine_head_of unit lines place p) (fine_uses place leads)
 
-    pub fine_all_defined : (unit : ColumnUnit) (lines : List (List ℕ)) (links : List Link) (firsts : List Place)
-        → ((place : Place) → In place firsts → Fine P (defined_text index sources unit lines links place))
-        → Fine P (all_defined index sources unit lines links firsts)
-    fine_all_defined unit lines links firsts each =
+    pub fine_all_defined : (unit : ColumnUnit) (lines : List (List ℕ)) (firsts : List Place)
+        → ((place : Place) → In place firsts → Fine P (defined_text index sources unit lines place))
+        → Fine P (all_defined index sources unit lines firsts)
+    fine_all_defined unit lines firsts each =
         let title : List ℕ = codes "<aside><h2>Definitions and their uses</h2>\n<dl>\n" in
-        let all : List ℕ = flat_map (defined_text index sources unit lines links) firsts in
+        let all : List ℕ = flat_map (defined_text index sources unit lines) firsts in
         both P (title ++ all) (codes "</dl>\n</aside>\n")
         (both P title all (fine_const P title refl refl)
-        (fine_each P (defined_text index sources unit lines links) firsts each))
+        (fine_each P (defined_text index sources unit lines) firsts each))
         (fine_const P (codes "</dl>\n</aside>\n") refl refl)
 
     pub fine_front : (unit : ColumnUnit) (occurrences : List Occurrence) (links : List Link) (lines : List (List ℕ))
@@ -266,11 +267,11 @@ module _ (P : List ℕ → Type 0) where
 
     pub fine_main : (unit : ColumnUnit) (occurrences : List Occurrence) (links : List Link) (lines : List (List ℕ))
         (firsts : List Place) → Fine P (code_text unit occurrences links lines)
-        → Fine P (all_defined index sources unit lines links firsts)
+        → Fine P (all_defined index sources unit lines firsts)
         → Fine P (main_text index sources unit occurrences links lines firsts)
     fine_main unit occurrences links lines firsts code defined =
         let text : List ℕ = codes "<main>\n<pre>" ++ code_text unit occurrences links lines ++ codes "</pre>\n" in
-        let below : List ℕ = all_defined index sources unit lines links firsts in
+        let below : List ℕ = all_defined index sources unit lines firsts in
         both P (text ++ below) (codes "</main>\n</body>\n</html>\n")
         (both P text below (fine_front unit occurrences links lines code) defined)
         (fine_const P (codes "</main>\n</body>\n</html>\n") refl refl)

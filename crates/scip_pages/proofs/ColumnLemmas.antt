@@ -7,7 +7,7 @@ use Rattle.std.proofs.lemmas.List.Sums.{sum_by_more}
 use Rattle.std.proofs.lemmas.List.{take_all}
 use Rattle.std.proofs.Math.ListN.{drop_of_length-le}
 use Rattle.std.proofs.Math.Bool.{and-false}
-use Rattle.std.proofs.lemmas.Bool.{ne_eqb, cases_lt}
+use Rattle.std.proofs.lemmas.Bool.{eq-eqb, ne_eqb, cases_lt}
 use Rattle.scip_pages.specs.declared.columns.ColumnUnit.{ColumnUnit}
 use Rattle.scip_pages.specs.Columns.{is_first_byte, units_of, units_in, is_uncut, is_at}
 
@@ -76,6 +76,18 @@ goes_on unit line column at units inside counted test =
     ∙ ap (λ b. cond b (Some at) (first_from (is_at unit line column) (length line) (at + 1)))
     (is_at_inside unit line column at inside ∙ ap (λ n. is_first_byte (get_or line at 0) && (n == column)) (sym counted)
     ∙ test)
+
+-- and so does its end
+pub ends_here : (unit : ColumnUnit) (line : List ℕ) (column at units : ℕ) → at ≡ length line
+    → units ≡ units_in unit (take at line) → units ≡ column
+    → first_from (is_at unit line column) (length line) at ≡ Some (length line)
+ends_here unit line column at units end counted here =
+    let whole : units ≡ units_in unit line = counted ∙ ap (units_in unit) (take_all at line (omega (arith, end))) in
+    let test : is_at unit line column (length line) ≡ true =
+    is_at_end unit line column ∙ eq-eqb (units_in unit line) column (sym whole ∙ here) in
+    ap (first_from (is_at unit line column) (length line)) end
+    ∙ (first_here (is_at unit line column) (length line) (length line) (omega arith)
+    ∙ ap (λ b. cond b (Some (length line)) (first_from (is_at unit line column) (length line) (length line + 1))) test)
 
 pub more_units : (unit : ColumnUnit) (line : List ℕ) (at units : ℕ) → at < length line
     → units ≡ units_in unit (take at line)

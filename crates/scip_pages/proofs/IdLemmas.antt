@@ -24,7 +24,8 @@ use Rattle.scip_pages.specs.Snapshot.{lines_of, misfit, fits, is_ordered, offset
 use Rattle.scip_pages.specs.Site.{Sources, line_or_first, line_listed, same_place}
 use Rattle.scip_pages.specs.Targets.{definition_of, target_of, place_url, uses_id, uses_url, is_at, is_first}
 use Rattle.scip_pages.specs.CodeText.{beginning, pieces_with, line_at, lead, line_text, line_by, code_text}
-use Rattle.scip_pages.specs.Uses.{places_text, label_at, defined_head, defined_name, defined_text, uses_text}
+use Rattle.scip_pages.specs.Targets.{label_at}
+use Rattle.scip_pages.specs.Uses.{places_text, defined_head, defined_name, defined_text, uses_text}
 use Rattle.scip_pages.specs.Uses.{all_defined}
 use Rattle.scip_pages.specs.Page.{links_of, firsts_of, start_text, main_text, page_of}
 use Rattle.scip_pages.specs.Ids.{HasId, IsPage, AllFit, IsShown, Leads, within, across, unit_in}
@@ -83,14 +84,14 @@ place_has occurrence line =
     ∷ (tag_a (codes "href") (codes "#L" ++ decimal line) ∷ (bare (codes "b") ∷ [])))
     (places_reads occurrence line) (0, omega arith, refl)
 
-module _ (index : Index) (sources : Sources) (unit : ColumnUnit) (lines : List (List ℕ)) (links : List Link) where
-  defined_fine : (place : Place) → Fine Any (defined_text index sources unit lines links place)
-  defined_fine place = fine_defined Any index sources unit lines links place tt (λ other is has. tt)
+module _ (index : Index) (sources : Sources) (unit : ColumnUnit) (lines : List (List ℕ)) where
+  defined_fine : (place : Place) → Fine Any (defined_text index sources unit lines place)
+  defined_fine place = fine_defined Any index sources unit lines place tt (λ other is has. tt)
 
-  all_fine : (firsts : List Place) → Fine Any (all_defined index sources unit lines links firsts)
-  all_fine firsts = fine_all_defined Any index sources unit lines links firsts (λ place is. defined_fine place)
+  all_fine : (firsts : List Place) → Fine Any (all_defined index sources unit lines firsts)
+  all_fine firsts = fine_all_defined Any index sources unit lines firsts (λ place is. defined_fine place)
 
-  defined_has : (place : Place) → HasId (uses_id place.occurrence) (defined_text index sources unit lines links place)
+  defined_has : (place : Place) → HasId (uses_id place.occurrence) (defined_text index sources unit lines place)
   defined_has place =
       let id : List ℕ = uses_id place.occurrence in
       let line : ℕ = line_listed index.documents place in
@@ -98,30 +99,30 @@ module _ (index : Index) (sources : Sources) (unit : ColumnUnit) (lines : List (
       let text : List ℕ = defined_name index unit lines place in
       let name : List ℕ = escape text in
       let middle : List ℕ = codes "</b> <span>" in
-      let label : List ℕ = escape (label_at links place.occurrence) in
+      let label : List ℕ = escape (label_at index place) in
       let one : EndsInText (start ++ name) =
       ends_both start name (places_reads place.occurrence line).ends (escaped_reads text).ends in
       let two : EndsInText (start ++ name ++ middle) = ends_both (start ++ name) middle one refl in
       let three : EndsInText (start ++ name ++ middle ++ label) =
-      ends_both (start ++ name ++ middle) label two (escaped_reads (label_at links place.occurrence)).ends in
-      has_before id (defined_head index unit lines links place) (uses_text index sources place)
-      (fine_head_of Any index sources unit lines links place tt).reads.ends
+      ends_both (start ++ name ++ middle) label two (escaped_reads (label_at index place)).ends in
+      has_before id (defined_head index unit lines place) (uses_text index sources place)
+      (fine_head_of Any index sources unit lines place tt).reads.ends
       (has_before id (start ++ name ++ middle ++ label) (codes "</span></a></dt>\n") three
       (has_before id (start ++ name ++ middle) label two
       (has_before id (start ++ name) middle one
       (has_before id start name (places_reads place.occurrence line).ends (place_has place.occurrence line)))))
 
   all_have : (place : Place) (firsts : List Place) → In place firsts
-      → HasId (uses_id place.occurrence) (all_defined index sources unit lines links firsts)
+      → HasId (uses_id place.occurrence) (all_defined index sources unit lines firsts)
   all_have place firsts is =
       let id : List ℕ = uses_id place.occurrence in
       let title : List ℕ = codes "<aside><h2>Definitions and their uses</h2>\n<dl>\n" in
-      let each : List ℕ = flat_map (defined_text index sources unit lines links) firsts in
+      let each : List ℕ = flat_map (defined_text index sources unit lines) firsts in
       let fine : Fine Any each =
-      fine_each Any (defined_text index sources unit lines links) firsts (λ other there. defined_fine other) in
+      fine_each Any (defined_text index sources unit lines) firsts (λ other there. defined_fine other) in
       has_before id (title ++ each) (codes "</dl>\n</aside>\n") (ends_both title each refl fine.reads.ends)
       (has_behind id title each refl
-      (has_among id (defined_text index sources unit lines links)
+      (has_among id (defined_text index sources unit lines)
       (λ other. (defined_fine other).reads.ends) place firsts
       is (defined_has place)))
 
@@ -142,7 +143,7 @@ module _ (index : Index) (sources : Sources) (number : ℕ) (d : Document) (unit
   code_front = codes "<main>\n<pre>" ++ code_part ++ codes "</pre>\n"
 
   abbrev defined_part : List ℕ
-  defined_part = all_defined index sources unit lines its_links firsts
+  defined_part = all_defined index sources unit lines firsts
 
   abbrev main_part : List ℕ
   main_part = main_text index sources unit d.occurrences its_links lines firsts
@@ -160,7 +161,7 @@ module _ (index : Index) (sources : Sources) (number : ℕ) (d : Document) (unit
 
   parts_end : EndsInText (code_front ++ defined_part)
   parts_end =
-      ends_both code_front defined_part front_ends (all_fine index sources unit lines its_links firsts).reads.ends
+      ends_both code_front defined_part front_ends (all_fine index sources unit lines firsts).reads.ends
 
   -- each of their lines has its place,
   page_has_line : (start : ℕ) → start < length lines
@@ -193,7 +194,7 @@ module _ (index : Index) (sources : Sources) (number : ℕ) (d : Document) (unit
       has_behind id (start_text d.relative_path) main_part start_ends
       (has_before id (code_front ++ defined_part) (codes "</main>\n</body>\n</html>\n") parts_end
       (has_behind id code_front defined_part front_ends
-      (all_have index sources unit lines its_links place firsts is)))
+      (all_have index sources unit lines place firsts is)))
 
 -- ---- ranges that fit
 

@@ -11,8 +11,12 @@ pub mod ColumnLemmas
 pub mod ColumnOffsetLemmas
 -- The units of a text, counted by its bytes in UTF-8, and in the form that they are units of
 pub mod ColumnUnitLemmas
+-- Lines of a source, and their milestones
+mod CountedLemmas
 -- Decimal digits in a page
 pub mod DecimalLemmas
+-- Texts that are cut, by their first bytes
+mod HoverLemmas
 -- What escaped texts show, and that they have no marks
 pub mod EscapeLemmas
 -- Facts that serve for a symbol

@@ -81,11 +81,11 @@ module _ (index : Index) (sources : Sources) (fit : AllFit index sources) (numbe
       subst IsClean (sym leads.url_is) (clean_target index from.0 leads.definition) in
       subst P (sym clean) (to_place (subst (λ (n : ℕ). Leads index sources n url) one.of leads.leads))
 
-  definition_fine : (place : Place) → In place firsts → Fine P (defined_text index sources unit lines links place)
+  definition_fine : (place : Place) → In place firsts → Fine P (defined_text index sources unit lines place)
   definition_fine place is =
       let one = its place (from_filter (is_first index sources) place (places_in number d) is).0 in
       let line = definitions_lead index sources fit place one.shown in
-      fine_defined P index sources unit lines links place
+      fine_defined P index sources unit lines place
       (to_place (subst (λ (n : ℕ). Leads index sources n (codes "#L" ++ decimal (line_listed index.documents place)))
       one.of line))
       (λ other there page.
@@ -100,7 +100,7 @@ module _ (index : Index) (sources : Sources) (fit : AllFit index sources) (numbe
       (λ folder is. to_folder (contained (folders_on [] (folder_of d.relative_path)) folder is)))
       (fine_main P index sources unit d.occurrences links lines firsts
       (fine_code P links link_leads unit d.occurrences lines)
-      (fine_all_defined P index sources unit lines links firsts definition_fine))
+      (fine_all_defined P index sources unit lines firsts definition_fine))
 
   pub each_leads : AllByRecursion P (urls_of (page_of index sources number d unit lines))
   each_leads = fine_page P (page_of index sources number d unit lines) page_fine

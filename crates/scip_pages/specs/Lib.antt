@@ -11,6 +11,7 @@ pub mod Tags
 -- where its occurrences lead
 pub mod Site
 pub mod Targets
+pub mod Hover
 pub mod Facts
 pub mod Ids
 -- snapshots
@@ -24,6 +25,7 @@ pub mod Escapes
 pub mod Plainly
 pub mod Plain
 pub mod Columns
+pub mod Counted
 pub mod Runs
 pub mod Listed
 pub mod Code

@@ -29,7 +29,7 @@ start_text path = head_text (page_path path) path ++ crumbs_text (page_path path
 abbrev pub main_text : Index → Sources → ColumnUnit → List Occurrence → List Link → List (List ℕ) → List Place → List ℕ
 main_text index sources unit occurrences links lines firsts =
     codes "<main>\n<pre>" ++ code_text unit occurrences links lines ++ codes "</pre>\n"
-    ++ all_defined index sources unit lines links firsts ++ codes "</main>\n</body>\n</html>\n"
+    ++ all_defined index sources unit lines firsts ++ codes "</main>\n</body>\n</html>\n"
 
 -- the page of the document with a number, whose source has these lines
 abbrev pub page_of : Index → Sources → ℕ → Document → ColumnUnit → List (List ℕ) → List ℕ

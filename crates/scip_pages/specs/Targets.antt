@@ -15,6 +15,7 @@ use Rattle.scip_pages.specs.declared.code.Link.{Link}
 use Rattle.scip_pages.specs.Urls.{url_of}
 use Rattle.scip_pages.specs.declared.facts.Known.{Known}
 use Rattle.scip_pages.specs.Shown.{shown_symbol}
+use Rattle.scip_pages.specs.Hover.{shortened}
 use Rattle.scip_pages.specs.Site.{Sources, has_page, line_listed, page_path, same_place}
 
 -- whether a definition that has a page is at a place
@@ -26,8 +27,8 @@ abbrev pub definition_of : Index → Sources → ℕ → List ℕ → Option Pla
 definition_of index sources document symbol =
     find (is_shown_definition index sources) (references_in index document symbol)
 
--- what is shown where a pointer hovers: the symbol, as it is shown, and below it what its entry says, its signature and
--- then its documentation
+-- what is said of a symbol: the symbol, as it is shown, and below it what its entry says, its signature and then its
+-- documentation
 abbrev pub below : List ℕ → List ℕ
 below text = codes "\n" ++ text
 
@@ -35,11 +36,21 @@ abbrev pub label_of : List ℕ → Option SymbolInformation → List ℕ
 label_of symbol entry =
     shown_symbol symbol ++ flat_map below (unless_empty (signature_in entry)) ++ flat_map below (texts_of entry)
 
+-- and what of that is shown where a pointer hovers
+abbrev pub hover_of : List ℕ → Option SymbolInformation → List ℕ
+hover_of symbol entry = shortened (label_of symbol entry)
+
+-- all that is said of the symbol at a place
+abbrev pub label_at : Index → Place → List ℕ
+label_at index place =
+    label_of (symbol_listed index.documents place)
+    (entry_in index place.document (symbol_listed index.documents place))
+
 -- what is known of a symbol that is asked for in a document
 abbrev pub known_of : Index → Sources → ℕ → List ℕ → Known
 known_of index sources document symbol = record {
   definition = definition_of index sources document symbol;
-  label = label_of symbol (entry_in index document symbol);
+  label = hover_of symbol (entry_in index document symbol);
 }
 
 abbrev pub known_at : Index → Sources → Place → Known

@@ -1,7 +1,6 @@
 -- What a page defines, and who uses it.
 use Rattle.std.specs.Prelude.{ℕ, Bool, not, ◌&&◌, cond, List, [], ◌∷◌, ◌++◌, codes, Option, None, Some}
-use Rattle.std.specs.List.{flat_map, slice_get}
-use Rattle.std.specs.Option.{option_map_or}
+use Rattle.std.specs.List.{flat_map}
 use Rattle.std.specs.Fmt.{decimal}
 use Rattle.scip_records.specs.declared.records.Index.{Index}
 use Rattle.scip_records.specs.declared.records.Occurrence.{Occurrence}
@@ -9,13 +8,12 @@ use Rattle.scip_query.specs.BySymbol.{references_in}
 use Rattle.scip_query.specs.Tables.{path_listed, symbol_listed, occurrence_listed}
 use Rattle.scip_query.specs.declared.place.Place.{Place}
 use Rattle.scip_pages.specs.declared.columns.ColumnUnit.{ColumnUnit}
-use Rattle.scip_pages.specs.declared.code.Link.{Link}
 use Rattle.scip_pages.specs.Snapshot.{inside_in}
 use Rattle.scip_pages.specs.Code.{attribute}
 use Rattle.scip_pages.specs.Escapes.{escape}
 use Rattle.scip_pages.specs.Marks.{link}
 use Rattle.scip_pages.specs.Site.{Sources, has_page, line_listed, same_place}
-use Rattle.scip_pages.specs.Targets.{place_url, uses_id}
+use Rattle.scip_pages.specs.Targets.{label_at, place_url, uses_id}
 use Rattle.scip_pages.specs.CodeText.{line_at}
 
 -- a use: its path and its line, which lead to it
@@ -58,28 +56,24 @@ defined_name index unit lines place =
     name_or_path (path_listed index.documents place.document)
     (marked_text unit lines (occurrence_listed index.documents place))
 
--- the label of the link with a number
-abbrev pub label_at : List Link → ℕ → List ℕ
-label_at links number = option_map_or (λ (l : Link). l.label) (slice_get links number) []
-
--- what is defined, which leads to its line, and its label
+-- what is defined, which leads to its line, and all that is said of it
 abbrev pub places_text : (occurrence line : ℕ) → List ℕ
 places_text occurrence line =
     codes "<dt" ++ attribute (codes "id") (uses_id occurrence) ++ codes "><a"
     ++ attribute (codes "href") (codes "#L" ++ decimal line) ++ codes "><b>"
 
-abbrev pub defined_head : Index → ColumnUnit → List (List ℕ) → List Link → Place → List ℕ
-defined_head index unit lines links place =
+abbrev pub defined_head : Index → ColumnUnit → List (List ℕ) → Place → List ℕ
+defined_head index unit lines place =
     places_text place.occurrence (line_listed index.documents place)
     ++ escape (defined_name index unit lines place) ++ codes "</b> <span>"
-    ++ escape (label_at links place.occurrence) ++ codes "</span></a></dt>\n"
+    ++ escape (label_at index place) ++ codes "</span></a></dt>\n"
 
-abbrev pub defined_text : Index → Sources → ColumnUnit → List (List ℕ) → List Link → Place → List ℕ
-defined_text index sources unit lines links place =
-    defined_head index unit lines links place ++ uses_text index sources place
+abbrev pub defined_text : Index → Sources → ColumnUnit → List (List ℕ) → Place → List ℕ
+defined_text index sources unit lines place =
+    defined_head index unit lines place ++ uses_text index sources place
 
 -- of all that is defined first on a page
-abbrev pub all_defined : Index → Sources → ColumnUnit → List (List ℕ) → List Link → List Place → List ℕ
-all_defined index sources unit lines links firsts =
+abbrev pub all_defined : Index → Sources → ColumnUnit → List (List ℕ) → List Place → List ℕ
+all_defined index sources unit lines firsts =
     codes "<aside><h2>Definitions and their uses</h2>\n<dl>\n"
-    ++ flat_map (defined_text index sources unit lines links) firsts ++ codes "</dl>\n</aside>\n"
+    ++ flat_map (defined_text index sources unit lines) firsts ++ codes "</dl>\n</aside>\n"

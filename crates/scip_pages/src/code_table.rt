@@ -9,7 +9,7 @@ ghost use Rattle.scip_pages.specs.ListedNumbers.{listed_on};
 ghost use Rattle.scip_pages.specs.Runs.{span_on};
 
 use crate::code::{Link, push_line};
-use crate::columns::ColumnUnit;
+use crate::counted::{Line, Lines};
 use crate::runs::{Span, line_runs, span_on};
 use scip_records::{Occurrence, Range};
 use std::alloc::{AllocError, Global};
@@ -17,10 +17,9 @@ use std::alloc::{AllocError, Global};
 /// What the code of a page is made of.
 #[derive(Clone, Copy)]
 pub(crate) struct Code<'a> {
-    pub unit: ColumnUnit,
     pub occurrences: &'a [Occurrence],
     pub links: &'a [Link],
-    pub lines: &'a [&'a str],
+    pub lines: &'a Lines<'a>,
 }
 
 /// The numbers from 0 below a count.
@@ -104,10 +103,10 @@ fn by_line(
 }
 
 /// What an occurrence marks of the line on which it begins.
-fn span_in(unit: ColumnUnit, line: &[u8], number: usize, range: Range) -> Option<Span>
-    ensures { result ≡ span_on unit range.start_line line.now number range }
+fn span_in(line: &Line<'_>, number: usize, range: Range) -> Option<Span>
+    ensures { result ≡ span_on line.now.unit range.start_line line.now.text number range }
 {
-    span_on(unit, range.start_line(), line, number, range)
+    span_on(range.start_line(), line, number, range)
 }
 
 /// Appends a span, if there is one.
@@ -123,15 +122,15 @@ fn push_one(spans: &mut Vec<Span>, span: Option<Span>) -> Result<(), AllocError>
 /// Appends what the occurrence with a number marks of the line on which it begins.
 fn push_span(
     spans: &mut Vec<Span>,
-    unit: ColumnUnit,
     occurrences: &[Occurrence],
-    line: &[u8],
+    line: &Line<'_>,
     number: usize,
 ) -> Result<(), AllocError>
-    ensures { OnOk result (spans.new.items ≡ spans.old.items ++ spec.span_of unit occurrences.now line.now number) }
+    ensures { OnOk result (spans.new.items ≡ spans.old.items
+        ++ spec.span_of line.now.unit occurrences.now line.now.text number) }
 {
     match occurrences.get(number) {
-        Some(occurrence) => push_one(spans, span_in(unit, line, number, occurrence.range)),
+        Some(occurrence) => push_one(spans, span_in(line, number, occurrence.range)),
         None => Ok(()),
     }
 }
@@ -139,16 +138,16 @@ fn push_span(
 /// What occurrences mark of the line on which they begin.
 fn spans_of(
     alloc: Global,
-    unit: ColumnUnit,
     occurrences: &[Occurrence],
-    line: &[u8],
+    line: &Line<'_>,
     marking: &[usize],
 ) -> Result<Vec<Span>, AllocError>
-    ensures { IfOk result (λ spans. spans.items ≡ spec.spans_of unit occurrences.now line.now marking.now) }
+    ensures { IfOk result (λ spans. spans.items
+        ≡ spec.spans_of line.now.unit occurrences.now line.now.text marking.now) }
 {
     let mut spans = Vec::with_capacity(alloc, marking.len())?;
     for number in marking {
-        push_span(&mut spans, unit, occurrences, line, *number)?;
+        push_span(&mut spans, occurrences, line, *number)?;
     }
     Ok(spans)
 }
@@ -182,14 +181,16 @@ fn push_numbered(
     marking: &[usize],
     number: usize,
 ) -> Result<(), AllocError>
-    ensures { OnOk result (page.new.items ≡ page.old.items ++ spec.line_text code.now.unit code.now.occurrences.now
-        code.now.links.now (map (λ (l : Bor (List ℕ)). l.now) code.now.lines.now) marking.now number) }
+    ensures { OnOk result (page.new.items ≡ page.old.items ++ spec.line_text code.now.lines.now.unit
+        code.now.occurrences.now code.now.links.now (map (λ (l : Bor (List ℕ)). l.now) code.now.lines.now.lines)
+        marking.now number) }
 {
-    let line = line_at(code.lines, number.saturating_sub(1)).as_bytes();
+    let line = code.lines.line(number.saturating_sub(1));
     push_lead(page, number)?;
-    let spans = spans_of(alloc, code.unit, code.occurrences, line, marking)?;
-    let runs = line_runs(alloc, &spans, line.len())?;
-    push_line(page, number, line, &runs, code.links)
+    let spans = spans_of(alloc, code.occurrences, &line, marking)?;
+    let text = line.text();
+    let runs = line_runs(alloc, &spans, text.len())?;
+    push_line(page, number, text, &runs, code.links)
 }
 
 /// The list of the line with a number; an empty one where there is none.
@@ -210,8 +211,8 @@ fn push_all_numbered(
     table: &[Vec<usize>],
     numbers: &[usize],
 ) -> Result<(), AllocError>
-    ensures { OnOk result (page.new.items ≡ page.old.items ++ flat_map (spec.line_by code.now.unit
-        code.now.occurrences.now code.now.links.now (map (λ (l : Bor (List ℕ)). l.now) code.now.lines.now)
+    ensures { OnOk result (page.new.items ≡ page.old.items ++ flat_map (spec.line_by code.now.lines.now.unit
+        code.now.occurrences.now code.now.links.now (map (λ (l : Bor (List ℕ)). l.now) code.now.lines.now.lines)
         (listed_on table.now)) numbers.now) }
 {
     for number in numbers {
@@ -223,11 +224,11 @@ fn push_all_numbered(
 
 /// For each line the occurrences that begin on it.
 fn table_of(alloc: Global, code: &Code<'_>) -> Result<Vec<Vec<usize>>, AllocError>
-    ensures { IfOk result (λ table. (line : ℕ) → line < length code.now.lines.now → listed_on table.items line
+    ensures { IfOk result (λ table. (line : ℕ) → line < length code.now.lines.now.lines → listed_on table.items line
         ≡ spec.beginning code.now.occurrences.now line) }
 {
     let listed = numbers(alloc, code.occurrences.len())?;
-    let table = by_line(alloc, code.lines, code.occurrences, &listed)?;
+    let table = by_line(alloc, code.lines.texts(), code.occurrences, &listed)?;
     Ok(table)
 }
 
@@ -237,11 +238,11 @@ pub(crate) fn push_code(
     page: &mut Vec<u8>,
     code: &Code<'_>,
 ) -> Result<(), AllocError>
-    ensures { OnOk result (page.new.items ≡ page.old.items ++ spec.code_text code.now.unit code.now.occurrences.now
-        code.now.links.now (map (λ (l : Bor (List ℕ)). l.now) code.now.lines.now)) }
+    ensures { OnOk result (page.new.items ≡ page.old.items ++ spec.code_text code.now.lines.now.unit
+        code.now.occurrences.now code.now.links.now (map (λ (l : Bor (List ℕ)). l.now) code.now.lines.now.lines)) }
 {
     let table = table_of(alloc, code)?;
-    let numbers = line_numbers(alloc, code.lines)?;
+    let numbers = line_numbers(alloc, code.lines.texts())?;
     push_all_numbered(alloc, page, code, &table, &numbers)?;
     Ok(())
 }

@@ -1,6 +1,6 @@
 //! Columns of a line.
 
-ghost use Rattle.std.specs.Prelude.{◌≡◌, ◌≤◌, ◌==◌, ◌&&◌};
+ghost use Rattle.std.specs.Prelude.{◌≡◌, ◌≤◌, ◌==◌, ◌&&◌, length, take};
 ghost use Rattle.scip_pages.specs.Columns as spec;
 
 /// What columns count, from the line's start (`scip.proto`, `PositionEncoding`).
@@ -64,18 +64,26 @@ fn is_here(byte: u8, units: u64, column: u64) -> bool
     is_first_byte(byte) && units == column
 }
 
-/// The offset in bytes of a column of a line, from 0 to the line's length. None if the line has no such column, or if
-/// it is inside a character.
-pub fn offset_of(unit: ColumnUnit, line: &[u8], column: u32) -> Option<usize>
+/// The offset of a column of a line, if so many units, not more than the column, come before `start`.
+pub(crate) fn offset_from(
+    unit: ColumnUnit,
+    line: &[u8],
+    start: usize,
+    before: u64,
+    column: u32,
+) -> Option<usize>
+    requires within { start ≤ length line.now }
+    requires counted { before ≡ spec.units_in unit (take start line.now) }
+    requires few { before ≤ column }
     ensures { result ≡ spec.offset_of unit line.now column }
 {
     let wanted = u64::from(column);
-    let mut units = 0;
-    for (at, byte) in line.iter().enumerate() {
-        if is_here(*byte, units, wanted) {
+    let mut units = before;
+    for at in start..line.len() {
+        if is_here(line[at], units, wanted) {
             return Some(at);
         }
-        units += units_of(unit, *byte);
+        units += units_of(unit, line[at]);
         if units > wanted {
             return None;
         }
@@ -84,5 +92,19 @@ pub fn offset_of(unit: ColumnUnit, line: &[u8], column: u32) -> Option<usize>
         Some(line.len())
     } else {
         None
+    }
+}
+
+/// The offset in bytes of a column of a line, from 0 to the line's length. None if the line has no such column, or if
+/// it is inside a character.
+pub fn offset_of(unit: ColumnUnit, line: &[u8], column: u32) -> Option<usize>
+    ensures { result ≡ spec.offset_of unit line.now column }
+{
+    match unit {
+        ColumnUnit::Utf8 => {
+            let start = line.len().min(column as usize);
+            offset_from(unit, line, start, start as u64, column)
+        }
+        _ => offset_from(unit, line, 0, 0, column),
     }
 }

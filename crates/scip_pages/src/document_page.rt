@@ -6,7 +6,7 @@ ghost use Rattle.scip_pages.specs.Page as spec;
 ghost use Rattle.scip_pages.specs.Facts.{AreRight};
 
 use crate::code_table::{Code, push_code};
-use crate::columns::ColumnUnit;
+use crate::counted::Lines;
 use crate::crumbs::{push_crumbs, push_head};
 use crate::facts::Facts;
 use crate::links::{linked_of, places_of};
@@ -19,17 +19,15 @@ use std::alloc::{AllocError, Global};
 /// The room for a line of a page: most pages fit that have as much for each.
 const LINE_ROOM: usize = 384;
 
-/// A document with its number, what its columns count, and the lines of its source.
+/// A document with its number, and the lines of its source.
 #[derive(Clone, Copy)]
 pub struct Asked<'a> {
     /// The document's number.
     pub number: usize,
     /// The document.
     pub document: &'a Document,
-    /// What its columns count.
-    pub unit: ColumnUnit,
-    /// The lines of its source, without their ends.
-    pub lines: &'a [&'a str],
+    /// The lines of its source.
+    pub lines: &'a Lines<'a>,
 }
 
 /// Appends what a page begins with.
@@ -52,8 +50,8 @@ fn push_main<'a>(
 ) -> Result<(), AllocError>
     requires { AreRight site.now.queries.now site.now.sources.now facts.now.facts.items }
     ensures { OnOk result (page.new.items ≡ page.old.items ++ spec.main_text site.now.queries.now site.now.sources.now
-        code.now.unit code.now.occurrences.now code.now.links.now (map (λ (l : Bor (List ℕ)). l.now) code.now.lines.now)
-        firsts.now) }
+        code.now.lines.now.unit code.now.occurrences.now code.now.links.now
+        (map (λ (l : Bor (List ℕ)). l.now) code.now.lines.now.lines) firsts.now) }
 {
     page.extend_from_slice(b"<main>\n<pre>")?;
     push_code(alloc, page, code)?;
@@ -74,10 +72,10 @@ fn page_with<'a>(
 ) -> Result<Vec<u8>, AllocError>
     requires { AreRight site.now.queries.now site.now.sources.now facts.now.facts.items }
     ensures { IfOk result (λ page. page.items ≡ spec.start_text path.now ++ spec.main_text site.now.queries.now
-        site.now.sources.now code.now.unit code.now.occurrences.now code.now.links.now
-        (map (λ (l : Bor (List ℕ)). l.now) code.now.lines.now) firsts.now) }
+        site.now.sources.now code.now.lines.now.unit code.now.occurrences.now code.now.links.now
+        (map (λ (l : Bor (List ℕ)). l.now) code.now.lines.now.lines) firsts.now) }
 {
-    let mut page = Vec::with_capacity(alloc, code.lines.len().saturating_mul(LINE_ROOM))?;
+    let mut page = Vec::with_capacity(alloc, code.lines.texts().len().saturating_mul(LINE_ROOM))?;
     push_start(alloc, &mut page, path)?;
     push_main(alloc, &mut page, site, facts, code, firsts)?;
     Ok(page)
@@ -95,15 +93,14 @@ pub fn page_and_firsts<'a>(
     requires { AreRight site.now.queries.now site.now.sources.now facts.old.facts.items }
     ensures right { AreRight site.now.queries.now site.now.sources.now facts.new.facts.items }
     ensures page { IfOk result (λ page. page.items ≡ spec.page_of site.now.queries.now site.now.sources.now
-        asked.now.number asked.now.document.now asked.now.unit (map (λ (l : Bor (List ℕ)). l.now)
-        asked.now.lines.now)) }
+        asked.now.number asked.now.document.now asked.now.lines.now.unit (map (λ (l : Bor (List ℕ)). l.now)
+        asked.now.lines.now.lines)) }
     ensures firsts { IfOk result (λ page. defined.new.items ≡ defined.old.items ++ spec.firsts_of site.now.queries.now
         site.now.sources.now asked.now.number asked.now.document.now) }
 {
     let places = places_of(alloc, asked.number, asked.document)?;
     let linked = linked_of(alloc, site, facts, &places)?;
     let code = Code {
-        unit: asked.unit,
         occurrences: asked.document.occurrences.as_slice(),
         links: &linked.links,
         lines: asked.lines,
@@ -124,8 +121,8 @@ pub fn page<'a>(
     requires { AreRight site.now.queries.now site.now.sources.now facts.old.facts.items }
     ensures right { AreRight site.now.queries.now site.now.sources.now facts.new.facts.items }
     ensures page { IfOk result (λ page. page.items ≡ spec.page_of site.now.queries.now site.now.sources.now
-        asked.now.number asked.now.document.now asked.now.unit (map (λ (l : Bor (List ℕ)). l.now)
-        asked.now.lines.now)) }
+        asked.now.number asked.now.document.now asked.now.lines.now.unit (map (λ (l : Bor (List ℕ)). l.now)
+        asked.now.lines.now.lines)) }
 {
     let mut firsts = Vec::new(alloc);
     page_and_firsts(alloc, site, facts, asked, &mut firsts)

@@ -4,12 +4,13 @@ ghost use Rattle.std.specs.Prelude.{◌≡◌, ◌++◌, [], IfOk, IfSome, OnOk,
 ghost use Rattle.std.specs.List.{flat_map};
 ghost use Rattle.scip_records.specs.Texts.{unless_empty};
 ghost use Rattle.scip_query.specs.References.{is_local};
-ghost use Rattle.scip_query.specs.BySymbol.{references_in};
+ghost use Rattle.scip_query.specs.BySymbol.{entry_in, references_in};
 ghost use Rattle.scip_pages.specs.Targets as spec;
 ghost use Rattle.scip_pages.specs.Facts.{AreRight, IsFact, Tells};
 ghost use Rattle.scip_pages.specs.Facts as served;
 
 use crate::definitions::definition_among;
+use crate::hover::hover_of;
 use crate::places::symbol_listed;
 use crate::shown::shown_symbol;
 use crate::site::Site;
@@ -26,7 +27,8 @@ const LABEL_ROOM: usize = 192;
 pub struct Known {
     /// The place of its first definition that has a page.
     pub definition: Option<Place>,
-    /// The symbol as it is shown, and below it its signature and its documentation.
+    /// What is shown of it where a pointer hovers: the symbol, and below it its signature and its documentation, cut if
+    /// they are long.
     pub label: Sequence<u8>,
 }
 
@@ -204,7 +206,7 @@ fn hint_all(hints: &mut Vec<Vec<usize>>, places: &[Place], number: usize) {
     }
 }
 
-/// A symbol as it is shown, and below it what its entry says.
+/// All that is said of a symbol: as it is shown, and below it what its entry says.
 fn label_of(
     alloc: Global,
     symbol: &str,
@@ -263,7 +265,7 @@ fn known_by(
     ensures { IfOk result (λ known. known ≡ spec.known_of site.now.queries.now site.now.sources.now document
         symbol.now) }
 {
-    let label = label_of(alloc, symbol, fact.information)?;
+    let label = hover_of(alloc, symbol, fact.information)?;
     Ok(Known {
         definition: fact.definition,
         label: Sequence::from_vec(label),
@@ -385,6 +387,37 @@ impl<'a> Facts<'a> {
     {
         let fact = self.fact_at(site, place, symbol)?;
         known_by(alloc, site, &fact, place.document, symbol)
+    }
+
+    /// The entry of the symbol at a place.
+    fn entry_for(
+        &self,
+        site: &Site<'a>,
+        place: Place,
+        symbol: &'a str,
+    ) -> Option<&'a SymbolInformation>
+        requires { AreRight site.now.queries.now site.now.sources.now self.now.facts.items }
+        ensures { option_copied result ≡ entry_in site.now.queries.now place.document symbol.now }
+    {
+        let hinted = hint_at(&self.hints, place);
+        match fact_for(site, &self.facts, hinted, place.document, symbol) {
+            Some(fact) => fact.information,
+            None => site.queries.entry_in(place.document, symbol),
+        }
+    }
+
+    /// All that is said of the symbol at a place.
+    pub(crate) fn label_for(
+        &self,
+        alloc: Global,
+        site: &Site<'a>,
+        place: Place,
+    ) -> Result<Vec<u8>, AllocError>
+        requires { AreRight site.now.queries.now site.now.sources.now self.now.facts.items }
+        ensures { IfOk result (λ label. label.items ≡ spec.label_at site.now.queries.now place) }
+    {
+        let symbol = symbol_listed(site.queries.documents(), place);
+        label_of(alloc, symbol, self.entry_for(site, place, symbol))
     }
 
     /// The places of all occurrences of the symbol at a place.

@@ -17,6 +17,7 @@ mod uses;
 
 // Where its occurrences lead.
 mod facts;
+mod hover;
 mod links;
 mod page_urls;
 mod places;
@@ -33,6 +34,7 @@ mod told_places;
 // What both stand on: lines and columns, what is marked on a line, texts, numbers, paths and URLs.
 mod code;
 mod columns;
+mod counted;
 mod decimals;
 mod escapes;
 mod lines;
@@ -47,11 +49,13 @@ mod page_laws;
 pub use code::{Link, cut, push_attribute, push_line};
 pub use code_table::{line_at, numbers};
 pub use columns::{ColumnUnit, offset_of, unit_of};
+pub use counted::{Line, Lines};
 pub use crumbs::{components_of, push_head};
 pub use decimals::push_decimal;
 pub use document_page::{Asked, page, page_and_firsts};
 pub use escapes::push_escaped;
 pub use facts::{Fact, Facts, Known};
+pub use hover::MAX_HOVER;
 pub use laws::{
     code_shows_the_source, columns_have_one_offset, escapes_become_no_marks, escapes_show_the_text,
     paths_stay_below, snapshots_have_their_source, the_narrowest_marks,

@@ -6,7 +6,7 @@ ghost use Rattle.std.specs.List.{All};
 ghost use Rattle.scip_pages.specs.Snapshot as spec;
 ghost use Rattle.scip_pages.specs.Listed.{listed_on};
 
-use crate::columns::{ColumnUnit, offset_of};
+use crate::counted::Lines;
 use scip_records::{Occurrence, Range};
 use std::alloc::{AllocError, Global};
 
@@ -18,11 +18,11 @@ pub fn lines_of(alloc: Global, text: &str) -> Result<Vec<&str>, AllocError>
 }
 
 /// The offset of a column of the line with a number.
-fn offset_at(unit: ColumnUnit, lines: &[&str], line: u32, column: u32) -> Option<usize>
-    ensures { result ≡ spec.offset_at unit (map (λ (l : Bor (List ℕ)). l.now) lines.now) line column }
+fn offset_at(lines: &Lines<'_>, line: u32, column: u32) -> Option<usize>
+    ensures { result ≡ spec.offset_at lines.now.unit (map (λ (l : Bor (List ℕ)). l.now) lines.now.lines) line column }
 {
-    match lines.get(line as usize) {
-        Some(text) => offset_of(unit, text.as_bytes(), column),
+    match lines.texts().get(line as usize) {
+        Some(_) => lines.line(line as usize).offset_of(column),
         None => None,
     }
 }
@@ -41,21 +41,21 @@ fn is_ordered(range: Range, from: Option<usize>, to: Option<usize>) -> bool
 }
 
 /// Whether the range of an occurrence is one of a source.
-fn fits(unit: ColumnUnit, lines: &[&str], occurrence: &Occurrence) -> bool
-    ensures { result ≡ spec.fits unit (map (λ (l : Bor (List ℕ)). l.now) lines.now) occurrence.now }
+fn fits(lines: &Lines<'_>, occurrence: &Occurrence) -> bool
+    ensures { result ≡ spec.fits lines.now.unit (map (λ (l : Bor (List ℕ)). l.now) lines.now.lines) occurrence.now }
 {
     let range = occurrence.range;
-    let from = offset_at(unit, lines, range.start_line(), range.start_column());
-    let to = offset_at(unit, lines, range.end_line(), range.end_column());
+    let from = offset_at(lines, range.start_line(), range.start_column());
+    let to = offset_at(lines, range.end_line(), range.end_column());
     is_ordered(range, from, to)
 }
 
 /// The number, from 0, of the first occurrence whose range isn't one of a source with these lines.
-pub fn misfit(unit: ColumnUnit, lines: &[&str], occurrences: &[Occurrence]) -> Option<usize>
-    ensures { result ≡ spec.misfit unit (map (λ (l : Bor (List ℕ)). l.now) lines.now) occurrences.now }
+pub fn misfit(lines: &Lines<'_>, occurrences: &[Occurrence]) -> Option<usize>
+    ensures { result ≡ spec.misfit lines.now.unit (map (λ (l : Bor (List ℕ)). l.now) lines.now.lines) occurrences.now }
 {
     for (number, occurrence) in occurrences.iter().enumerate() {
-        if !fits(unit, lines, occurrence) {
+        if !fits(lines, occurrence) {
             return Some(number);
         }
     }

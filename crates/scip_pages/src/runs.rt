@@ -5,7 +5,7 @@ ghost use Rattle.std.specs.Prelude.{IfOk, OnOk, None, Some};
 ghost use Rattle.std.specs.List.{prefix_len, range_with_len};
 ghost use Rattle.scip_pages.specs.Runs as spec;
 
-use crate::columns::{ColumnUnit, offset_of};
+use crate::counted::Line;
 use scip_records::Range;
 use std::alloc::{AllocError, Global};
 
@@ -33,11 +33,11 @@ pub struct Run {
 }
 
 /// Where a range begins on a line with a number.
-fn start_on(unit: ColumnUnit, number: u32, line: &[u8], range: Range) -> Option<usize>
-    ensures { result ≡ spec.start_on unit number line.now range }
+fn start_on(number: u32, line: &Line<'_>, range: Range) -> Option<usize>
+    ensures { result ≡ spec.start_on line.now.unit number line.now.text range }
 {
     if range.start_line() == number {
-        offset_of(unit, line, range.start_column())
+        line.offset_of(range.start_column())
     } else if range.start_line() < number {
         Some(0)
     } else {
@@ -46,32 +46,25 @@ fn start_on(unit: ColumnUnit, number: u32, line: &[u8], range: Range) -> Option<
 }
 
 /// Where it ends there.
-fn end_on(unit: ColumnUnit, number: u32, line: &[u8], range: Range) -> Option<usize>
-    ensures { result ≡ spec.end_on unit number line.now range }
+fn end_on(number: u32, line: &Line<'_>, range: Range) -> Option<usize>
+    ensures { result ≡ spec.end_on line.now.unit number line.now.text range }
 {
     if range.end_line() == number {
-        offset_of(unit, line, range.end_column())
+        line.offset_of(range.end_column())
     } else if number < range.end_line() {
-        Some(line.len())
+        Some(line.text().len())
     } else {
         None
     }
 }
 
-/// What a range marks of the line with a number, from 0, if columns count `unit`. Of a range over several lines each
-/// has its part. None if nothing of the range is there, or if one of its columns isn't between two characters of the
-/// line.
-pub fn span_on(
-    unit: ColumnUnit,
-    number: u32,
-    line: &[u8],
-    occurrence: usize,
-    range: Range,
-) -> Option<Span>
-    ensures { result ≡ spec.span_on unit number line.now occurrence range }
+/// What a range marks of the line with a number, from 0. Of a range over several lines each has its part. None if
+/// nothing of the range is there, or if one of its columns isn't between two characters of the line.
+pub fn span_on(number: u32, line: &Line<'_>, occurrence: usize, range: Range) -> Option<Span>
+    ensures { result ≡ spec.span_on line.now.unit number line.now.text occurrence range }
 {
-    let start = start_on(unit, number, line, range)?;
-    let end = end_on(unit, number, line, range)?;
+    let start = start_on(number, line, range)?;
+    let end = end_on(number, line, range)?;
     if start < end {
         Some(Span {
             start,

@@ -14,7 +14,8 @@ ghost use Rattle.scip_pages.specs.SnapshotOutcomes.{Gives, RunsOutForText};
 
 use crate::about::push_about;
 use crate::code::cut;
-use crate::columns::{ColumnUnit, is_first_byte, offset_of, unit_of};
+use crate::columns::{ColumnUnit, is_first_byte, unit_of};
+use crate::counted::{Line, Lines};
 use crate::lines::{by_line, lines_of, misfit};
 use crate::snapshot_fault::SnapshotFault;
 use scip_query::Queries;
@@ -113,17 +114,18 @@ pub(crate) fn without_return(line: &[u8]) -> &[u8]
 
 /// What of a line is before a range that begins on it, and what is in the range; of a range over several lines up to
 /// the end of this one, without the `\r` of a line end `\r\n`.
-pub fn parts_of(unit: ColumnUnit, line: &[u8], range: Range) -> (&[u8], &[u8])
-    ensures before { result.0.now ≡ spec.before_in unit line.now range }
-    ensures inside { result.1.now ≡ spec.inside_in unit line.now range }
+pub fn parts_of<'a>(line: &Line<'a>, range: Range) -> (&'a [u8], &'a [u8])
+    ensures before { result.0.now ≡ spec.before_in line.now.unit line.now.text range }
+    ensures inside { result.1.now ≡ spec.inside_in line.now.unit line.now.text range }
 {
-    let start = offset_of(unit, line, range.start_column()).unwrap_or(0);
+    let text = line.text();
+    let start = line.offset_of(range.start_column()).unwrap_or(0);
     let end = if range.start_line() == range.end_line() {
-        offset_of(unit, line, range.end_column()).unwrap_or(0)
+        line.offset_of(range.end_column()).unwrap_or(0)
     } else {
-        without_return(line).len()
+        without_return(text).len()
     };
-    cut(cut(line, end).0, start)
+    cut(cut(text, end).0, start)
 }
 
 /// A document of an index, as its snapshot is written.
@@ -145,7 +147,7 @@ fn push_mark(
     ensures { OnOk result (text.new.items ≡ text.old.items ++ spec.mark_in shown.now.unit line.now
         (entry_in shown.now.queries.now shown.now.number) occurrence.now) }
 {
-    let (before, inside) = parts_of(shown.unit, line, occurrence.range);
+    let (before, inside) = parts_of(&Line::new(shown.unit, line), occurrence.range);
     push_carets(text, before, inside, occurrence)?;
     if !is_definition(occurrence) {
         return Ok(());
@@ -244,18 +246,19 @@ fn snapshot_of_lines(
     alloc: Global,
     shown: &Shown<'_>,
     occurrences: &[Occurrence],
-    lines: &[&str],
+    lines: &Lines<'_>,
 ) -> Result<Vec<u8>, SnapshotFault>
+    requires { lines.now.unit ≡ shown.now.unit }
     ensures gives { Gives (λ text. text.items) result (spec.in_unit (Some shown.now.unit)
         (entry_in shown.now.queries.now shown.now.number) occurrences.now
-        (map (λ (l : Bor (List ℕ)). l.now) lines.now)) }
+        (map (λ (l : Bor (List ℕ)). l.now) lines.now.lines)) }
     ensures memory { RunsOutForText result (spec.in_unit (Some shown.now.unit)
         (entry_in shown.now.queries.now shown.now.number) occurrences.now
-        (map (λ (l : Bor (List ℕ)). l.now) lines.now)) }
+        (map (λ (l : Bor (List ℕ)). l.now) lines.now.lines)) }
 {
-    match misfit(shown.unit, lines, occurrences) {
+    match misfit(lines, occurrences) {
         Some(number) => Err(SnapshotFault::Misfit(number)),
-        None => Ok(text_of(alloc, shown, occurrences, lines)?),
+        None => Ok(text_of(alloc, shown, occurrences, lines.texts())?),
     }
 }
 
@@ -269,8 +272,9 @@ fn snapshot_in(
     ensures { Gives (λ text. text.items) result (spec.in_unit (Some shown.now.unit)
         (entry_in shown.now.queries.now shown.now.number) occurrences.now (spec.lines_of source.now)) }
 {
-    let lines = lines_of(alloc, source)?;
-    snapshot_of_lines(alloc, shown, occurrences, lines.as_slice())
+    let texts = lines_of(alloc, source)?;
+    let lines = Lines::new(alloc, shown.unit, texts.as_slice())?;
+    snapshot_of_lines(alloc, shown, occurrences, &lines)
 }
 
 /// What a document's columns count.

@@ -11,6 +11,7 @@ ghost use Rattle.scip_pages.specs.Snapshot.{lines_of};
 ghost use Rattle.scip_pages.specs.Told as spec;
 
 use crate::columns::{ColumnUnit, is_first_byte};
+use crate::counted::Line;
 use crate::decimals::push_decimal;
 use crate::snapshots::{parts_of, without_return};
 use basics::OwnedText;
@@ -89,7 +90,7 @@ fn column_in(source: Option<&Source>, range: Range) -> usize
     match source {
         Some(source) => {
             let line = line_in(source, range.start_line()).as_bytes();
-            let (before, _) = parts_of(source.unit, line, range);
+            let (before, _) = parts_of(&Line::new(source.unit, line), range);
             characters_of(before) + 1
         }
         None => range.start_column() as usize + 1,

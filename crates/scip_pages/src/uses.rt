@@ -1,18 +1,19 @@
 //! What a page defines, and who uses it.
 
-ghost use Rattle.std.specs.Prelude.{◌≡◌, ◌++◌, ℕ, List, map, IfOk, OnOk, option_copied};
+ghost use Rattle.std.specs.Prelude.{◌≡◌, ◌++◌, ℕ, List, map, codes, IfOk, OnOk, option_copied};
 ghost use Rattle.std.specs.Borrow.{Bor};
 ghost use Rattle.std.specs.List.{flat_map};
 ghost use Rattle.scip_query.specs.Tables.{path_listed};
 ghost use Rattle.scip_pages.specs.Site.{line_listed};
 ghost use Rattle.scip_pages.specs.Facts.{AreRight};
-ghost use Rattle.scip_pages.specs.Targets.{uses_id};
+ghost use Rattle.scip_pages.specs.Escapes.{escape};
+ghost use Rattle.scip_pages.specs.Targets.{label_at, uses_id};
 ghost use Rattle.scip_pages.specs.Uses as spec;
 ghost use Rattle.scip_pages.specs.Urls.{line_place};
 
-use crate::code::{Link, push_attribute};
-use crate::code_table::{Code, line_at};
-use crate::columns::ColumnUnit;
+use crate::code::push_attribute;
+use crate::code_table::Code;
+use crate::counted::Lines;
 use crate::decimals::push_decimal;
 use crate::escapes::push_escaped;
 use crate::facts::Facts;
@@ -121,18 +122,14 @@ fn push_uses<'a>(
 }
 
 /// The text that an occurrence marks on the line on which it begins.
-pub fn marked_text<'a>(
-    unit: ColumnUnit,
-    lines: &'a [&'a str],
-    occurrence: Option<&Occurrence>,
-) -> &'a [u8]
-    ensures { result.now ≡ spec.marked_text unit (map (λ (l : Bor (List ℕ)). l.now) lines.now)
+pub fn marked_text<'a>(lines: &'a Lines<'a>, occurrence: Option<&Occurrence>) -> &'a [u8]
+    ensures { result.now ≡ spec.marked_text lines.now.unit (map (λ (l : Bor (List ℕ)). l.now) lines.now.lines)
         (option_copied occurrence.entry) }
 {
     match occurrence {
         Some(occurrence) => {
-            let line = line_at(lines, occurrence.range.start_line() as usize);
-            parts_of(unit, line.as_bytes(), occurrence.range).1
+            let line = lines.line(occurrence.range.start_line() as usize);
+            parts_of(&line, occurrence.range).1
         }
         None => &[],
     }
@@ -150,22 +147,12 @@ fn name_or_path<'a>(path: &'a str, name: &'a [u8]) -> &'a [u8]
 
 /// The name of what is defined at a place: the text that is marked, and if that is empty the path of the document.
 fn defined_name<'a>(site: &Site<'a>, code: &Code<'a>, place: Place) -> &'a [u8]
-    ensures { result.now ≡ spec.defined_name site.now.queries.now code.now.unit
-        (map (λ (l : Bor (List ℕ)). l.now) code.now.lines.now) place }
+    ensures { result.now ≡ spec.defined_name site.now.queries.now code.now.lines.now.unit
+        (map (λ (l : Bor (List ℕ)). l.now) code.now.lines.now.lines) place }
 {
     let documents = site.queries.documents();
-    let name = marked_text(code.unit, code.lines, occurrence_listed(documents, place));
+    let name = marked_text(code.lines, occurrence_listed(documents, place));
     name_or_path(path_listed(documents, place.document), name)
-}
-
-/// The label of the link with a number.
-fn label_at(links: &[Link], number: usize) -> &[u8]
-    ensures { result.now ≡ spec.label_at links.now number }
-{
-    match links.get(number) {
-        Some(link) => link.label.as_slice(),
-        None => &[],
-    }
 }
 
 /// The place of the uses of what the occurrence with a number defines.
@@ -205,24 +192,42 @@ fn push_places(
     page.extend_from_slice(b"><b>")
 }
 
-/// Appends what is defined at a place.
-fn push_defined_head(
+/// Appends, behind the name of what is defined at a place, all that is said of it.
+fn push_said<'a>(
     alloc: Global,
     page: &mut Vec<u8>,
-    site: &Site<'_>,
+    site: &Site<'a>,
+    facts: &Facts<'a>,
+    place: Place,
+) -> Result<(), AllocError>
+    requires { AreRight site.now.queries.now site.now.sources.now facts.now.facts.items }
+    ensures { OnOk result (page.new.items ≡ page.old.items ++ codes "</b> <span>"
+        ++ escape (label_at site.now.queries.now place) ++ codes "</span></a></dt>\n") }
+{
+    let label = facts.label_for(alloc, site, place)?;
+    page.extend_from_slice(b"</b> <span>")?;
+    push_escaped(page, &label)?;
+    page.extend_from_slice(b"</span></a></dt>\n")
+}
+
+/// Appends what is defined at a place, and all that is said of it.
+fn push_defined_head<'a>(
+    alloc: Global,
+    page: &mut Vec<u8>,
+    site: &Site<'a>,
+    facts: &Facts<'a>,
     code: &Code<'_>,
     place: Place,
 ) -> Result<(), AllocError>
-    ensures { OnOk result (page.new.items ≡ page.old.items ++ spec.defined_head site.now.queries.now code.now.unit
-        (map (λ (l : Bor (List ℕ)). l.now) code.now.lines.now) code.now.links.now place) }
+    requires { AreRight site.now.queries.now site.now.sources.now facts.now.facts.items }
+    ensures { OnOk result (page.new.items ≡ page.old.items ++ spec.defined_head site.now.queries.now
+        code.now.lines.now.unit (map (λ (l : Bor (List ℕ)). l.now) code.now.lines.now.lines) place) }
 {
     let name = defined_name(site, code, place);
     let line = line_listed(site.queries.documents(), place);
     push_places(alloc, page, place.occurrence, line)?;
     push_escaped(page, name)?;
-    page.extend_from_slice(b"</b> <span>")?;
-    push_escaped(page, label_at(code.links, place.occurrence))?;
-    page.extend_from_slice(b"</span></a></dt>\n")
+    push_said(alloc, page, site, facts, place)
 }
 
 /// Appends what is defined at a place, and its uses.
@@ -236,10 +241,10 @@ fn push_defined<'a>(
 ) -> Result<(), AllocError>
     requires { AreRight site.now.queries.now site.now.sources.now facts.now.facts.items }
     ensures { OnOk result (page.new.items ≡ page.old.items ++ spec.defined_text site.now.queries.now
-        site.now.sources.now code.now.unit (map (λ (l : Bor (List ℕ)). l.now) code.now.lines.now) code.now.links.now
+        site.now.sources.now code.now.lines.now.unit (map (λ (l : Bor (List ℕ)). l.now) code.now.lines.now.lines)
         place) }
 {
-    push_defined_head(alloc, page, site, code, place)?;
+    push_defined_head(alloc, page, site, facts, code, place)?;
     push_uses(alloc, page, site, facts, place)
 }
 
@@ -254,7 +259,7 @@ fn push_each_defined<'a>(
 ) -> Result<(), AllocError>
     requires { AreRight site.now.queries.now site.now.sources.now facts.now.facts.items }
     ensures { OnOk result (page.new.items ≡ page.old.items ++ flat_map (spec.defined_text site.now.queries.now
-        site.now.sources.now code.now.unit (map (λ (l : Bor (List ℕ)). l.now) code.now.lines.now) code.now.links.now)
+        site.now.sources.now code.now.lines.now.unit (map (λ (l : Bor (List ℕ)). l.now) code.now.lines.now.lines))
         firsts.now) }
 {
     for place in firsts {
@@ -274,7 +279,8 @@ pub(crate) fn push_all_defined<'a>(
 ) -> Result<(), AllocError>
     requires { AreRight site.now.queries.now site.now.sources.now facts.now.facts.items }
     ensures { OnOk result (page.new.items ≡ page.old.items ++ spec.all_defined site.now.queries.now site.now.sources.now
-        code.now.unit (map (λ (l : Bor (List ℕ)). l.now) code.now.lines.now) code.now.links.now firsts.now) }
+        code.now.lines.now.unit (map (λ (l : Bor (List ℕ)). l.now) code.now.lines.now.lines)
+        firsts.now) }
 {
     page.extend_from_slice(b"<aside><h2>Definitions and their uses</h2>\n<dl>\n")?;
     push_each_defined(alloc, page, site, facts, code, firsts)?;

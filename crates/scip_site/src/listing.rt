@@ -22,9 +22,10 @@ pub(crate) fn listed_page<'a>(
     requires { AreRight site.now.queries.now site.now.sources.now facts.old.facts.items }
     ensures right { AreRight site.now.queries.now site.now.sources.now facts.new.facts.items }
     ensures page { IfOk result (λ page. page.items ≡ page_of site.now.queries.now site.now.sources.now asked.now.number
-        asked.now.document.now asked.now.unit (map (λ (l : Bor (List ℕ)). l.now) asked.now.lines.now)) }
+        asked.now.document.now asked.now.lines.now.unit (map (λ (l : Bor (List ℕ)). l.now) asked.now.lines.now.lines)) }
     ensures listed { IfOk result (λ page. script.new.items ≡ script.old.items ++ listing_text site.now.queries.now
-        asked.now.unit (map (λ (l : Bor (List ℕ)). l.now) asked.now.lines.now) asked.now.document.now.relative_path
+        asked.now.lines.now.unit (map (λ (l : Bor (List ℕ)). l.now) asked.now.lines.now.lines)
+        asked.now.document.now.relative_path
         (firsts_of site.now.queries.now site.now.sources.now asked.now.number asked.now.document.now)) }
 {
     let mut firsts = Vec::new(alloc);

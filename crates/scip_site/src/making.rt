@@ -26,7 +26,7 @@ use crate::styles::{SEARCH, STYLE};
 use crate::tree::first_page;
 use basics::OwnedText;
 use scip_pages::{
-    Asked, ColumnUnit, Facts, Site, has_page, lines_of, page_path, path_listed, unit_of,
+    Asked, ColumnUnit, Facts, Lines, Site, has_page, lines_of, page_path, path_listed, unit_of,
 };
 use scip_query::Queries;
 use scip_records::Document;
@@ -78,11 +78,11 @@ fn page_in<'a>(
         site.now.queries.now (ids.unit_in document.now) (lines_of source.now) document.now.relative_path
         (firsts_of site.now.queries.now site.now.sources.now number document.now)) }
 {
-    let lines = lines_of(alloc, source)?;
+    let texts = lines_of(alloc, source)?;
+    let lines = Lines::new(alloc, unit_in(document), &texts)?;
     let asked = Asked {
         number,
         document,
-        unit: unit_in(document),
         lines: &lines,
     };
     listed_page(alloc, site, &mut listed.facts, &asked, &mut listed.script)

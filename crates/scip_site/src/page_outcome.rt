@@ -9,7 +9,7 @@ ghost use Rattle.scip_site.specs.Reading as spec;
 use crate::no_page::NoPage;
 use crate::snapshot_outcome::path_in;
 use basics::OwnedText;
-use scip_pages::{ColumnUnit, is_path_below, lines_of, misfit, unit_of};
+use scip_pages::{ColumnUnit, Lines, is_path_below, lines_of, misfit, unit_of};
 use scip_records::Document;
 use source_files::ReadFiles;
 use std::alloc::{AllocError, Global};
@@ -32,8 +32,9 @@ fn fit_or_misfit(
     ensures { IfOk result (λ outcome. outcome ≡ spec.fit_or_misfit source.now
         (misfit unit (lines_of source.now) document.now.occurrences)) }
 {
-    let lines = lines_of(alloc, source)?;
-    match misfit(unit, &lines, document.occurrences.as_slice()) {
+    let texts = lines_of(alloc, source)?;
+    let lines = Lines::new(alloc, unit, &texts)?;
+    match misfit(&lines, document.occurrences.as_slice()) {
         Some(_) => Ok(Err(NoPage::Misfit)),
         None => Ok(Ok(OwnedText::copy_of(alloc, source)?)),
     }

@@ -105,11 +105,11 @@ fn push_named(
     asked: &Asked<'_>,
     place: Place,
 ) -> Result<(), AllocError>
-    ensures { OnOk result (script.new.items ≡ script.old.items ++ spec.named_text site.now.queries.now asked.now.unit
-        (map (λ (l : Bor (List ℕ)). l.now) asked.now.lines.now) place) }
+    ensures { OnOk result (script.new.items ≡ script.old.items ++ spec.named_text site.now.queries.now
+        asked.now.lines.now.unit (map (λ (l : Bor (List ℕ)). l.now) asked.now.lines.now.lines) place) }
 {
     let documents = site.queries.documents();
-    let name = marked_text(asked.unit, asked.lines, occurrence_listed(documents, place));
+    let name = marked_text(asked.lines, occurrence_listed(documents, place));
     let symbol = shown_symbol(symbol_listed(documents, place).as_bytes());
     push_name(script, line_listed(documents, place), name, symbol)
 }
@@ -122,7 +122,7 @@ fn push_all_named(
     firsts: &[Place],
 ) -> Result<(), AllocError>
     ensures { OnOk result (script.new.items ≡ script.old.items ++ flat_map (spec.named_text site.now.queries.now
-        asked.now.unit (map (λ (l : Bor (List ℕ)). l.now) asked.now.lines.now)) firsts.now) }
+        asked.now.lines.now.unit (map (λ (l : Bor (List ℕ)). l.now) asked.now.lines.now.lines)) firsts.now) }
 {
     for place in firsts {
         push_named(script, site, asked, *place)?;
@@ -153,8 +153,8 @@ pub(crate) fn push_listing(
     asked: &Asked<'_>,
     firsts: &[Place],
 ) -> Result<(), AllocError>
-    ensures { OnOk result (script.new.items ≡ script.old.items ++ spec.listing_text site.now.queries.now asked.now.unit
-        (map (λ (l : Bor (List ℕ)). l.now) asked.now.lines.now) path.now firsts.now) }
+    ensures { OnOk result (script.new.items ≡ script.old.items ++ spec.listing_text site.now.queries.now
+        asked.now.lines.now.unit (map (λ (l : Bor (List ℕ)). l.now) asked.now.lines.now.lines) path.now firsts.now) }
 {
     push_page(alloc, script, path)?;
     push_all_named(script, site, asked, firsts)?;

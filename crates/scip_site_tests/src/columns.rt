@@ -1,7 +1,7 @@
 //! Columns, of `scip.proto`'s own example and of a range over several lines.
 
 use crate::calls::see;
-use scip_pages::{ColumnUnit, Span, offset_of, span_on, unit_of};
+use scip_pages::{ColumnUnit, Line, Span, offset_of, span_on, unit_of};
 use scip_records::Range;
 use std::test::Fail;
 
@@ -27,7 +27,7 @@ fn a_line_between_marks_is_marked_whole(rt: HostRuntime) -> Result<(), Fail> {
         occurrence: 7,
     };
     let span = match Range::new(1, 1, 3, 1) {
-        Some(range) => span_on(ColumnUnit::Utf8, 2, b"abcd", 7, range),
+        Some(range) => span_on(2, &Line::new(ColumnUnit::Utf8, b"abcd"), 7, range),
         None => None,
     };
     see(&rt, span == Some(due), "part");

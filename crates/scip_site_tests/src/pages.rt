@@ -3,7 +3,7 @@
 use crate::asked::queries;
 use crate::calls::see;
 use basics::OwnedText;
-use scip_pages::{Asked, ColumnUnit, Facts, Site, page};
+use scip_pages::{Asked, ColumnUnit, Facts, Lines, Site, page};
 use scip_query::Queries;
 use std::alloc::{AllocError, Global};
 use std::process::Abort;
@@ -104,11 +104,11 @@ fn page_by(
     let mut facts = Facts::new(alloc, queries)?;
     match queries.documents() {
         [document, ..] => {
+            let lines = Lines::new(alloc, ColumnUnit::Utf8, &LINES)?;
             let asked = Asked {
                 number: 0,
                 document,
-                unit: ColumnUnit::Utf8,
-                lines: &LINES,
+                lines: &lines,
             };
             page(alloc, &site, &mut facts, &asked)
         }

@@ -9,5 +9,5 @@ use Rattle.scip_pages.proofs.code_table.push_all_numbered.Given as goal
 abbrev pub invariant-loop-number : goal.invariant-loop-number
 invariant-loop-number l =
     l.page.items ≡ l.fn.page.items
-    ++ flat_map (line_by l.code.unit l.code.occurrences.now l.code.links.now
-    (map (λ (t : Bor (List ℕ)). t.now) l.code.lines.now) (listed_on l.table)) (take l.number-index l.numbers)
+    ++ flat_map (line_by l.code.lines.now.unit l.code.occurrences.now l.code.links.now
+    (map (λ (t : Bor (List ℕ)). t.now) l.code.lines.now.lines) (listed_on l.table)) (take l.number-index l.numbers)

@@ -9,5 +9,5 @@ pub returns-in-None : goal.returns-in-None
 returns-in-None c =
     let spans = c.args.spans.now.items in
     sym (append-nil spans)
-    ∙ ap (λ (o : Option Occurrence). spans ++ spans_or_none c.args.unit c.args.line.now c.args.number o)
+    ∙ ap (λ (o : Option Occurrence). spans ++ spans_or_none c.args.line.now.unit c.args.line.now.text c.args.number o)
     (sym (slice_get_past c.args.occurrences.now c.args.number c.in-None.ensures.lookup.3))

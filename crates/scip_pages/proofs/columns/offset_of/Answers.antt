@@ -1,32 +1,10 @@
-use Rattle.std.proofs.Common.{◌∙◌, sym, ap, arith, length, ◌+◌, ◌-◌}
-use Rattle.scip_pages.specs.Columns.{offset_of}
-use Rattle.scip_pages.proofs.ColumnLemmas.{is_here, goes_on, more_units, none_past}
+use Rattle.std.proofs.Common.{◌∙◌, arith, sym, take}
+use Rattle.std.proofs.lemmas.List.{length-take-le}
+use Rattle.scip_pages.proofs.ColumnUnitLemmas.{counts_utf8}
 use Rattle.scip_pages.proofs.columns.offset_of.Goals as goal
 
-pub returns-then-is_here : goal.returns-then-is_here
-returns-then-is_here c =
-    sym (is_here c.args.unit c.args.line.now c.from-wanted.result c.loop-at.at c.loop-at.units c.loop-at-test.true
-    c.loop-at.invariant.counted (sym c.is_here.ensures ∙ c.if-is_here.true))
-    ∙ c.loop-at.invariant.left ∙ ap (offset_of c.args.unit c.args.line.now) c.from-wanted.ensures
-
-pub returns-then-units-wanted : goal.returns-then-units-wanted
-returns-then-units-wanted c =
-    let units = ap (λ n. c.loop-at.units + n) c.units_of-units.ensures.units
-    ∙ more_units c.args.unit c.args.line.now c.loop-at.at c.loop-at.units c.loop-at-test.true
-    c.loop-at.invariant.counted in
-    sym (none_past c.args.unit c.args.line.now c.from-wanted.result (length c.args.line.now + 1 - (c.loop-at.at + 1))
-    (c.loop-at.at + 1) (omega (arith, units, c.if-units-wanted.true)))
-    ∙ sym (goes_on c.args.unit c.args.line.now c.from-wanted.result c.loop-at.at c.loop-at.units c.loop-at-test.true
-    c.loop-at.invariant.counted (sym c.is_here.ensures ∙ c.if-is_here.false))
-    ∙ c.loop-at.invariant.left ∙ ap (offset_of c.args.unit c.args.line.now) c.from-wanted.ensures
-
-pub loop-at-preserved : goal.loop-at-preserved
-loop-at-preserved c = record {
-  counted = ap (λ n. c.loop-at.units + n) c.units_of-units.ensures.units
-      ∙ more_units c.args.unit c.args.line.now c.loop-at.at c.loop-at.units c.loop-at-test.true
-      c.loop-at.invariant.counted;
-  few = c.if-units-wanted.false;
-  left = sym (goes_on c.args.unit c.args.line.now c.from-wanted.result c.loop-at.at c.loop-at.units c.loop-at-test.true
-      c.loop-at.invariant.counted (sym c.is_here.ensures ∙ c.if-is_here.false))
-      ∙ c.loop-at.invariant.left;
-}
+pub offset_from-requires-clause-counted : goal.offset_from-requires-clause-counted
+offset_from-requires-clause-counted c =
+    let start = c.min-start.result in
+    rw c.in-Utf8.is (sym (counts_utf8 (take start c.args.line.now)
+    ∙ length-take-le start c.args.line.now (omega (arith, c.min-start.ensures))))

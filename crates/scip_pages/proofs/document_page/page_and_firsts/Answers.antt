@@ -16,7 +16,7 @@ returns-clause-page c =
     let sources = c.args.site.now.sources.now in
     let asked = c.args.asked.now in
     let d = asked.document.now in
-    let lines : List (List ℕ) = map (λ (l : Bor (List ℕ)). l.now) asked.lines.now in
+    let lines : List (List ℕ) = map (λ (l : Bor (List ℕ)). l.now) asked.lines.now.lines in
     let start : List ℕ = start_text d.relative_path in
     let occurrences : List Occurrence = c.as_slice.result.now in
     let links : List Link = c.deref-2.result.now in
@@ -28,12 +28,13 @@ returns-clause-page c =
     c.as_slice-firsts.ensures.value ∙ c.in_ok-linked.ensures.firsts ∙ ap (filter (is_first index sources)) places in
     IfOk-weaker c.page_with.result _ _
     (λ page h. h
-    ∙ ap (λ (path : List ℕ). start_text path ++ main_text index sources asked.unit occurrences links lines firsts)
-    c.as_str-path.ensures
-    ∙ ap (λ (os : List Occurrence). start ++ main_text index sources asked.unit os links lines firsts)
+    ∙ ap (λ (path : List ℕ). start_text path ++ main_text index sources asked.lines.now.unit occurrences links
+    lines firsts) c.as_str-path.ensures
+    ∙ ap (λ (os : List Occurrence). start ++ main_text index sources asked.lines.now.unit os links lines firsts)
     c.as_slice.ensures
-    ∙ ap (λ (ls : List Link). start ++ main_text index sources asked.unit d.occurrences ls lines firsts) linked
-    ∙ ap (λ (fs : List Place). start ++ main_text index sources asked.unit d.occurrences
+    ∙ ap (λ (ls : List Link). start ++ main_text index sources asked.lines.now.unit d.occurrences ls lines
+    firsts) linked
+    ∙ ap (λ (fs : List Place). start ++ main_text index sources asked.lines.now.unit d.occurrences
     (links_of index sources asked.number d) lines fs) listed) c.page_with.ensures
 
 pub returns-clause-firsts : goal.returns-clause-firsts

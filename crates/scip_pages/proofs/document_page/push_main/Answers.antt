@@ -11,12 +11,12 @@ returns c =
     let page : List ℕ = c.args.page.now.items in
     let made = c.args.code.now in
     let site = c.args.site.now in
-    let lines : List (List ℕ) = map (λ (l : Bor (List ℕ)). l.now) made.lines.now in
+    let lines : List (List ℕ) = map (λ (l : Bor (List ℕ)). l.now) made.lines.now.lines in
     let start : List ℕ = codes "<main>\n<pre>" in
-    let code : List ℕ = code_text made.unit made.occurrences.now made.links.now lines in
+    let code : List ℕ = code_text made.lines.now.unit made.occurrences.now made.links.now lines in
     let end : List ℕ = codes "</pre>\n" in
     let defined : List ℕ =
-    all_defined site.queries.now site.sources.now made.unit lines made.links.now c.args.firsts.now in
+    all_defined site.queries.now site.sources.now made.lines.now.unit lines c.args.firsts.now in
     more page (start ++ code ++ end ++ defined) (codes "</main>\n</body>\n</html>\n")
     (more page (start ++ code ++ end) defined
     (more page (start ++ code) end

@@ -7,5 +7,6 @@ use Rattle.scip_pages.proofs.lines.misfit.Goals as goal
 
 pub loop-number-init : goal.loop-number-init
 loop-number-init c =
-    position_is (λ (o : Occurrence). not (fits c.args.unit (map (λ (t : Bor (List ℕ)). t.now) c.args.lines.now) o))
+    position_is (λ (o : Occurrence). not (fits c.args.lines.now.unit
+    (map (λ (t : Bor (List ℕ)). t.now) c.args.lines.now.lines) o))
     c.args.occurrences.now

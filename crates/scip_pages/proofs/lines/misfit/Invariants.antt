@@ -8,6 +8,6 @@ use Rattle.scip_pages.proofs.lines.misfit.Given as goal
 -- the occurrences so far fit
 abbrev pub invariant-loop-number : goal.invariant-loop-number
 invariant-loop-number l =
-    position_from (λ (o : Occurrence). not (fits l.unit (map (λ (t : Bor (List ℕ)). t.now) l.lines) o)) l.number
-    (drop l.number l.occurrences)
-    ≡ misfit l.unit (map (λ (t : Bor (List ℕ)). t.now) l.lines) l.occurrences
+    position_from (λ (o : Occurrence). not (fits l.lines.unit (map (λ (t : Bor (List ℕ)). t.now) l.lines.lines) o))
+    l.number (drop l.number l.occurrences)
+    ≡ misfit l.lines.unit (map (λ (t : Bor (List ℕ)). t.now) l.lines.lines) l.occurrences

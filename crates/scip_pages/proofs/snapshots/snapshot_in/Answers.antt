@@ -11,5 +11,6 @@ returns c =
     gives_same _ c.snapshot_of_lines.result _ _
     (ap (in_unit (Some c.args.shown.now.unit)
     (entry_in c.args.shown.now.queries.now c.args.shown.now.number) c.args.occurrences.now)
-    (ap (map (λ (line : Bor (List ℕ)). line.now)) c.as_slice.ensures.value ∙ c.in_ok-lines.ensures))
+    (ap (map (λ (line : Bor (List ℕ)). line.now)) (c.in_ok-lines.ensures.lines ∙ c.as_slice.ensures.value)
+    ∙ c.in_ok-texts.ensures))
     c.snapshot_of_lines.ensures.gives

@@ -8,5 +8,5 @@ use Rattle.scip_pages.proofs.uses.push_each_defined.Given as goal
 abbrev pub invariant-loop-place : goal.invariant-loop-place
 invariant-loop-place l =
     l.page.items ≡ l.fn.page.items
-    ++ flat_map (defined_text l.site.queries.now l.site.sources.now l.code.unit
-    (map (λ (t : Bor (List ℕ)). t.now) l.code.lines.now) l.code.links.now) (take l.place-index l.firsts)
+    ++ flat_map (defined_text l.site.queries.now l.site.sources.now l.code.lines.now.unit
+    (map (λ (t : Bor (List ℕ)). t.now) l.code.lines.now.lines)) (take l.place-index l.firsts)

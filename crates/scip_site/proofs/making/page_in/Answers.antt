@@ -12,11 +12,13 @@ returns-clause-page c =
     let index = c.args.site.now.queries.now in
     let sources = c.args.site.now.sources.now in
     let d = c.args.document.now in
-    let lines : map (λ (l : Bor (List ℕ)). l.now) c.deref.result.now ≡ lines_of c.args.source.now =
-    ap (map (λ (l : Bor (List ℕ)). l.now)) c.deref.ensures.value ∙ c.in_ok-lines.ensures in
+    let made = c.in_ok-lines.lines in
+    let lines : map (λ (l : Bor (List ℕ)). l.now) made.lines ≡ lines_of c.args.source.now =
+    ap (map (λ (l : Bor (List ℕ)). l.now)) (c.in_ok-lines.ensures.lines ∙ c.deref.ensures.value)
+    ∙ c.in_ok-texts.ensures in
     IfOk-weaker c.listed_page.result _ _
     (λ p e. e
     ∙ ap (λ (u : ColumnUnit). page_of index sources c.args.number d u
-    (map (λ (l : Bor (List ℕ)). l.now) c.deref.result.now))
-    c.unit_in.ensures
+    (map (λ (l : Bor (List ℕ)). l.now) made.lines))
+    (c.in_ok-lines.ensures.unit ∙ c.unit_in.ensures)
     ∙ ap (page_of index sources c.args.number d (unit_in d)) lines) c.listed_page.ensures.page

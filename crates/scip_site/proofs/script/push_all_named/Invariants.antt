@@ -8,5 +8,5 @@ use Rattle.scip_site.proofs.script.push_all_named.Given as goal
 abbrev pub invariant-loop-place : goal.invariant-loop-place
 invariant-loop-place l =
     l.script.items ≡ l.fn.script.items
-    ++ flat_map (named_text l.site.queries.now l.asked.unit (map (λ (t : Bor (List ℕ)). t.now) l.asked.lines.now))
-    (take l.place-index l.firsts)
+    ++ flat_map (named_text l.site.queries.now l.asked.lines.now.unit
+    (map (λ (t : Bor (List ℕ)). t.now) l.asked.lines.now.lines)) (take l.place-index l.firsts)

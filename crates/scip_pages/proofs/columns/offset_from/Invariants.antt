@@ -1,7 +1,7 @@
 use Rattle.std.proofs.Common.{◌≡◌, ◌≤◌, length, take}
 use Rattle.scip_pages.specs.Columns.{units_in, is_at, offset_of}
 use Rattle.scip_pages.proofs.ColumnLemmas.{first_from}
-use Rattle.scip_pages.proofs.columns.offset_of.Given as goal
+use Rattle.scip_pages.proofs.columns.offset_from.Given as goal
 
 -- the units so far, and no offset so far is at the column
 abbrev pub invariant-loop-at : goal.invariant-loop-at
